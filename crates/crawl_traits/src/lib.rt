@@ -1,0 +1,19 @@
+//! The outside as the crawler sees it: a source, a sink, a clock, and a volume of files with what a crash may
+//! make of it. Each object has a count of faults that never falls, and a call fails only where it rose.
+#![tactic(auto)]
+
+mod clock;
+mod fault;
+mod file;
+mod stream;
+mod synced;
+mod volume;
+mod whole;
+
+pub use clock::Clock;
+pub use fault::{Failed, StoreFault};
+pub use file::FileId;
+pub use stream::{Sink, Source};
+pub use synced::{cut_synced, write_synced};
+pub use volume::Volume;
+pub use whole::write_whole;
