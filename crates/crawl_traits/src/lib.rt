@@ -6,7 +6,8 @@ mod clock;
 mod fault;
 mod file;
 mod stream;
-mod synced;
+mod synced_cut;
+mod synced_write;
 mod volume;
 mod whole;
 
@@ -14,6 +15,7 @@ pub use clock::Clock;
 pub use fault::{Failed, StoreFault};
 pub use file::FileId;
 pub use stream::{Sink, Source};
-pub use synced::{cut_synced, write_synced};
+pub use synced_cut::cut_synced;
+pub use synced_write::write_synced;
 pub use volume::Volume;
 pub use whole::write_whole;

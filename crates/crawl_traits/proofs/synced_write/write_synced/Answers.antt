@@ -2,7 +2,7 @@ use Rattle.std.proofs.Common.{length, OnOk, sym, ◌∙◌, subst}
 use Rattle.crawl_traits.specs.Images.{Image, Only, TornWrite, After}
 use Rattle.crawl_traits.proofs.Steps.{torn_same, stays}
 use Rattle.crawl_traits.proofs.Moments.{started, goes_on}
-use Rattle.crawl_traits.proofs.synced.write_synced.Goals as goal
+use Rattle.crawl_traits.proofs.synced_write.write_synced.Goals as goal
 
 pub returns-in_err-write_at-clause-any_moment : goal.returns-in_err-write_at-clause-any_moment
 returns-in_err-write_at-clause-any_moment g c =

@@ -2,7 +2,7 @@ use Rattle.std.proofs.Common.{OnOk, sym, ◌∙◌, subst}
 use Rattle.crawl_traits.specs.Images.{Image, Only, TornCut, After}
 use Rattle.crawl_traits.proofs.Steps.{cut_same, stays}
 use Rattle.crawl_traits.proofs.Moments.{started, goes_on}
-use Rattle.crawl_traits.proofs.synced.cut_synced.Goals as goal
+use Rattle.crawl_traits.proofs.synced_cut.cut_synced.Goals as goal
 
 pub returns-in_err-cut-clause-any_moment : goal.returns-in_err-cut-clause-any_moment
 returns-in_err-cut-clause-any_moment g c =

@@ -1,0 +1,10 @@
+pub mod AppendRun
+pub mod Appending
+pub mod Damage
+pub mod Digits
+pub mod FreshRun
+pub mod Mending
+pub mod OpenRun
+pub mod Placing
+pub mod Reading
+pub mod Unique

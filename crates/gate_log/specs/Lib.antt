@@ -1,0 +1,5 @@
+pub mod Blocks
+pub mod Frame
+pub mod Logs
+pub mod Reading
+pub mod Rest
