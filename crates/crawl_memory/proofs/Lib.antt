@@ -1,0 +1,4 @@
+pub mod FileLists
+pub mod Pieces
+pub mod Recording
+pub mod Written

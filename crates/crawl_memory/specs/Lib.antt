@@ -1,0 +1,4 @@
+pub mod Calls
+pub mod Fails
+pub mod Files
+pub mod Laws
