@@ -1,7 +1,6 @@
 -- The fields of journal lines: texts without a space. Numbers are decimal, without leading zeros.
---     or_dash text      the text, or `-` for the empty one
 --     item_fields, ticket_fields, end_fields      of an item, of its ticket, of its end
---     verdict_field, outcome_tag      the letters of a verdict, the tag of an outcome
+--     verdict_field, outcome_tag      the letter of a verdict, the tag of an outcome
 use Rattle.std.specs.Prelude.{ℕ, ℤ, pos, nat_lt, if◌then◌else◌, List, [], ◌∷◌, ◌++◌, codes, Option, Some, None, unwrap_or}
 use Rattle.std.specs.Fmt.{decimal, signed_decimal}
 use Rattle.std.specs.List.{join_with_byte}
@@ -23,14 +22,21 @@ use Rattle.crawl_kinds.specs.declared.item.Item.{Item}
 abbrev pub absent : List ℕ
 absent = codes "-"
 
--- the text, or `-` for the empty one
-abbrev pub or_dash : List ℕ → List ℕ
-or_dash [] = absent
-or_dash (b ∷ bs) = b ∷ bs
+-- between the parts of a place, and between notes
+abbrev pub colon : ℕ
+colon = 58
+
+abbrev pub comma : ℕ
+comma = 44
+
+-- PATH, where the empty path is absent
+abbrev pub path_field : List ℕ → List ℕ
+path_field [] = absent
+path_field (letter ∷ letters) = letter ∷ letters
 
 -- URI PATH VIA
 abbrev pub item_fields : Item → List (List ℕ)
-item_fields item = item.uri ∷ or_dash item.path ∷ unwrap_or item.via absent ∷ []
+item_fields item = item.uri ∷ path_field item.path ∷ unwrap_or item.via absent ∷ []
 
 -- TIME CALLER TICKET
 abbrev pub ticket_fields : ℕ → ℕ → ℕ → List (List ℕ)
@@ -58,7 +64,7 @@ fetch_field (Some fetch) = decimal fetch.start ++ codes "+" ++ decimal fetch.dur
 
 -- FILE:AT:LEN
 abbrev pub spot_field : Spot → List ℕ
-spot_field spot = join_with_byte 58 (decimal spot.file ∷ decimal spot.at ∷ decimal spot.len ∷ [])
+spot_field spot = join_with_byte colon (decimal spot.file ∷ decimal spot.at ∷ decimal spot.len ∷ [])
 
 -- SIZE TYPE DIGEST FILE:AT:LEN
 abbrev pub body_fields : Option Body → List (List ℕ)
@@ -79,9 +85,14 @@ tries_notes tries = if nat_lt tries 2 then [] else (codes "tries:" ++ decimal tr
 abbrev pub cause_notes : ℤ → List (List ℕ)
 cause_notes cause = if int_eq cause (pos 0) then [] else (codes "cause:" ++ signed_decimal cause) ∷ []
 
--- NOTES, joined by commas
+-- the notes joined by commas, or `-` where there is none
+abbrev pub joined_notes : List (List ℕ) → List ℕ
+joined_notes [] = absent
+joined_notes (note ∷ notes) = join_with_byte comma (note ∷ notes)
+
+-- NOTES
 abbrev pub notes_field : Notes → List ℕ
-notes_field notes = or_dash (join_with_byte 44 (cut_notes notes.cut ++ tries_notes notes.tries ++ cause_notes notes.cause))
+notes_field notes = joined_notes (cut_notes notes.cut ++ tries_notes notes.tries ++ cause_notes notes.cause)
 
 -- CODE START+DURATION SIZE TYPE DIGEST FILE:AT:LEN NOTES
 abbrev pub end_fields : End → List (List ℕ)

@@ -11,9 +11,15 @@ use Rattle.crawl_kinds.specs.declared.event.Event.TheVariants.{Session, Seeds, E
 use Rattle.crawl_kinds.specs.declared.item.Item.{Item}
 use Rattle.journal_spec.specs.Fields.{item_fields, ticket_fields, verdict_field, outcome_tag, end_fields}
 
+abbrev pub space : ℕ
+space = 32
+
+abbrev pub line_feed : ℕ
+line_feed = 10
+
 -- the fields, one space apart, and a line feed
 abbrev pub line : List (List ℕ) → List ℕ
-line fields = join_with_byte 32 fields ++ 10 ∷ []
+line fields = join_with_byte space fields ++ line_feed ∷ []
 
 -- S+ TIME JOB FORMAT
 abbrev pub session_line : ℕ → List ℕ → ℕ → List ℕ
