@@ -1,13 +1,10 @@
 -- Events, and their lines as written by hand.
 --     opening, opening_lines      a session and two seeds
---     lacking_robots, lacking_robots_lines      an item that waits for its robots file
---     robots_missing, robots_missing_lines      a robots file that isn't there
---     broken_off, broken_off_lines      a last failure with every note
-use Rattle.std.specs.Prelude.{ℕ, pos, negsuc, List, [], ◌∷◌, ◌++◌, codes, flat_map, Option, Some, None}
-use Rattle.crawl_kinds.specs.declared.event.Outcome.TheVariants.{Success, Failure, Retry}
-use Rattle.crawl_kinds.specs.declared.event.Cut.TheVariants.{Disconnect}
+--     handed_out, handed_out_lines      an item that is emitted
+use Rattle.std.specs.Prelude.{ℕ, List, [], ◌∷◌, ◌++◌, codes, flat_map, Option, Some, None}
+use Rattle.crawl_kinds.specs.declared.event.Verdict.TheVariants.{Needed}
 use Rattle.crawl_kinds.specs.declared.event.Event.{Event}
-use Rattle.crawl_kinds.specs.declared.event.Event.TheVariants.{Session, Seeds, Finish}
+use Rattle.crawl_kinds.specs.declared.event.Event.TheVariants.{Session, Seeds, Emit}
 use Rattle.crawl_kinds.specs.declared.item.Item.{Item}
 use Rattle.journal_spec.specs.Journal.{line_feed}
 
@@ -15,12 +12,15 @@ use Rattle.journal_spec.specs.Journal.{line_feed}
 abbrev pub lines : List (List ℕ) → List ℕ
 lines texts = flat_map (λ text. text ++ line_feed ∷ []) texts
 
+-- a seed
 abbrev pub uri_a : List ℕ
 uri_a = codes "http://a.test/"
 
+-- another seed, on another host
 abbrev pub uri_b : List ℕ
 uri_b = codes "http://b.test/x"
 
+-- the robots file of the first seed's host
 abbrev pub uri_robots : List ℕ
 uri_robots = codes "http://a.test/robots.txt"
 
@@ -28,12 +28,14 @@ uri_robots = codes "http://a.test/robots.txt"
 abbrev pub found : List ℕ → List ℕ → Option (List ℕ) → Item
 found uri path via = record { key = uri; uri = uri; class = uri; path = path; via = via; rank = 3 }
 
+-- a session and two seeds
 abbrev pub opening : List Event
 opening =
     Session 1700000000000 (codes "none") 1
     ∷ Seeds 1700000000000 (uri_a ∷ uri_b ∷ []) (found uri_a [] None ∷ found uri_b [] None ∷ [])
     ∷ []
 
+-- the six lines of the opening
 abbrev pub opening_lines : List ℕ
 opening_lines =
     lines
@@ -45,65 +47,10 @@ opening_lines =
     ∷ codes "F+ http://b.test/x - -"
     ∷ [])
 
-abbrev pub lacking_robots : Event
-lacking_robots =
-    Finish 1700000000000 0 1 (found uri_a [] None)
-    (record {
-      outcome = Retry;
-      code = negsuc 49;
-      fetch = None;
-      body = None;
-      notes = record { cut = None; tries = 1; cause = pos 0 };
-    })
-    (found uri_robots (codes "P") (Some uri_a) ∷ [])
+-- an item that needs its robots file
+abbrev pub handed_out : Event
+handed_out = Emit 1700000000000 31 1 Needed (found uri_b (codes "LE") (Some uri_a))
 
-abbrev pub lacking_robots_lines : List ℕ
-lacking_robots_lines =
-    lines
-    (codes "Fr http://a.test/ - - 1700000000000 0 1 -50 - - - - - -"
-    ∷ codes "F+ http://a.test/robots.txt P http://a.test/"
-    ∷ [])
-
-abbrev pub robots_missing : Event
-robots_missing =
-    Finish 1700000000000 0 2 (found uri_robots (codes "P") (Some uri_a))
-    (record {
-      outcome = Success;
-      code = pos 404;
-      fetch = Some (record { start = 1700000000000; duration = 0 });
-      body =
-          Some (record {
-            size = 45;
-            media = codes "no-type";
-            digest = codes "sha1:3I42H3S6NNFQ2MSVX7XZKYAYSCX5QBYJ";
-            spot = record { file = 0; at = 386; len = 1590 };
-          });
-      notes = record { cut = None; tries = 1; cause = pos 0 };
-    })
-    []
-
-abbrev pub robots_missing_lines : List ℕ
-robots_missing_lines =
-    lines
-    (codes
-    "Fs http://a.test/robots.txt P http://a.test/ 1700000000000 0 2 404 1700000000000+0 45 no-type sha1:3I42H3S6NNFQ2MSVX7XZKYAYSCX5QBYJ 0:386:1590 -"
-    ∷ [])
-
-abbrev pub broken_off : Event
-broken_off =
-    Finish 1700000009000 3 7 (found uri_b (codes "LE") (Some uri_a))
-    (record {
-      outcome = Failure;
-      code = negsuc 7;
-      fetch = Some (record { start = 1700000001000; duration = 8000 });
-      body = None;
-      notes = record { cut = Some Disconnect; tries = 3; cause = negsuc 3 };
-    })
-    []
-
-abbrev pub broken_off_lines : List ℕ
-broken_off_lines =
-    lines
-    (codes
-    "Ff http://b.test/x LE http://a.test/ 1700000009000 3 7 -8 1700000001000+8000 - - - - trunc:disconnect,tries:3,cause:-4"
-    ∷ [])
+-- its line
+abbrev pub handed_out_lines : List ℕ
+handed_out_lines = lines (codes "Fe http://b.test/x LE http://a.test/ 1700000000000 31 1 N" ∷ [])

@@ -22,10 +22,11 @@ use Rattle.crawl_kinds.specs.declared.item.Item.{Item}
 abbrev pub absent : List ℕ
 absent = codes "-"
 
--- between the parts of a place, and between notes
+-- what stands between the parts of a place
 abbrev pub colon : ℕ
 colon = 58
 
+-- what stands between notes
 abbrev pub comma : ℕ
 comma = 44
 

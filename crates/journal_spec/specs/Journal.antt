@@ -11,9 +11,11 @@ use Rattle.crawl_kinds.specs.declared.event.Event.TheVariants.{Session, Seeds, E
 use Rattle.crawl_kinds.specs.declared.item.Item.{Item}
 use Rattle.journal_spec.specs.Fields.{item_fields, ticket_fields, verdict_field, outcome_tag, end_fields}
 
+-- what stands between fields
 abbrev pub space : ℕ
 space = 32
 
+-- what ends a line
 abbrev pub line_feed : ℕ
 line_feed = 10
 

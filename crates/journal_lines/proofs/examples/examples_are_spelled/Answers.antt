@@ -7,6 +7,10 @@ pub returns-clause-opening : goal.returns-clause-opening
 unfolding digits
 returns-clause-opening c = refl
 
+pub returns-clause-handed_out : goal.returns-clause-handed_out
+unfolding digits
+returns-clause-handed_out c = refl
+
 pub returns-clause-lacking_robots : goal.returns-clause-lacking_robots
 unfolding digits
 returns-clause-lacking_robots c = refl
