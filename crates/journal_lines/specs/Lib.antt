@@ -1,0 +1,3 @@
+pub mod Examples
+pub mod FinishExamples
+pub mod Written
