@@ -1,7 +1,7 @@
 -- A log's file in a volume, between calls and during them.
 --     RestsAt of volume file gate bodies      the file holds these blocks, on the disk, and its next gate stands there
---     CountsOneMore, KeepsCount, Anything      what a call may do to what the file counts
-use Rattle.std.specs.Prelude.{◌≡◌, ◌⊎◌, ℕ, List, [], ◌∷◌, ◌++◌, length, IsTrue}
+--     CountsOneMore, KeepsCount, Emptied, Anything      what a call may do to what the file counts
+use Rattle.std.specs.Prelude.{◌≡◌, ◌⊎◌, ℕ, ◌≤◌, max, List, [], ◌∷◌, ◌++◌, length, IsTrue}
 use Rattle.crawl_traits.specs.Images.{Only}
 use Rattle.crawl_traits.specs.declared.file.FileId.{FileId}
 use Rattle.crawl_traits.specs.declared.volume.Volume.{Ghosts}
@@ -25,6 +25,10 @@ CountsOneMore bodies body before after = Counts bodies after ⊎ Counts (bodies 
 -- what the file counted it counts still
 abbrev pub KeepsCount : List ℕ → List ℕ → Type 0
 KeepsCount before after = (bodies : List (List ℕ)) → Counts bodies before → Counts bodies after
+
+-- a file that is emptied is never longer than it was, but for one byte
+abbrev pub Emptied : List ℕ → List ℕ → Type 0
+Emptied before after = length after ≤ max (length before) 1
 
 -- anything may stand there
 abbrev pub Anything : List ℕ → List ℕ → Type 0

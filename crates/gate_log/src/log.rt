@@ -22,17 +22,17 @@ pub struct GateLog {
 impl GateLog {
     ghost use Rattle.gate_log.specs.Blocks.{at_rest};
     ghost use Rattle.gate_log.specs.Reading.{AreBlocksOf, bodies_of, IsDamage};
-    ghost use Rattle.gate_log.specs.Rest.{CountsOneMore, Anything, KeepsCount};
+    ghost use Rattle.gate_log.specs.Rest.{CountsOneMore, Anything, Emptied, KeepsCount};
     ghost use Rattle.gate_log.specs.Logs.{IsAtRest, file_of};
 
-    /// Empties a file, and makes a log of no blocks in it. At `Ok` that is in every later image. A crash during the
-    /// call leaves anything in the file.
+    /// Empties a file, and makes a log of no blocks in it. At `Ok` that is in every later image.
     pub fn fresh<V: Volume>(volume: &mut V, file: FileId) -> Result<GateLog, StoreFault>
         ensures ok { IfOk result (λ log. (file_of log ≡ file) × (IsTrue (V.tells volume.old) → IsAtRest V.Volume log volume.new [])) }
         ensures spelled { IsTrue (V.tells volume.old) → OnOk result (V.contents volume.new file ≡ at_rest []) }
 
-        // A crash at any moment of the call leaves the other files as they were.
-        ensures any_moment { LeavesOnly V.Volume volume.old volume.new (After file Anything (V.may_leave volume.old)) }
+        // A crash at any moment of the call leaves the other files as they were, and of this one no more than
+        // there was: a file of at most one byte, which counts no block, stays one.
+        ensures any_moment { LeavesOnly V.Volume volume.old volume.new (After file Emptied (V.may_leave volume.old)) }
         ensures changed { IsTrue (V.tells volume.old) → InFile file Anything (V.contents volume.old) (V.contents volume.new) }
         ensures tells { V.tells volume.new ≡ V.tells volume.old }
 
