@@ -1,0 +1,3 @@
+//! Definitions of the history of a crawl: definitions alone, over any facts of addresses, scopes, robots files and
+//! pages. They stand in `specs/`.
+#![tactic(auto)]

@@ -1,0 +1,13 @@
+pub mod Alone
+pub mod Based
+pub mod Chosen
+pub mod Completeness
+pub mod Counting
+pub mod Emits
+pub mod Keeping
+pub mod Lists
+pub mod Ordinals
+pub mod Politeness
+pub mod Snapshots
+pub mod Staying
+pub mod Timely

@@ -1,0 +1,5 @@
+pub mod BudgetLegal
+pub mod RetriesLegal
+pub mod SessionsLegal
+pub mod TicketsLegal
+pub mod TwoHostsLegal

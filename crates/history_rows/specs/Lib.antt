@@ -1,0 +1,13 @@
+pub mod Breaches
+pub mod Budget
+pub mod Checkpoint
+pub mod Fetches
+pub mod Limits
+pub mod Names
+pub mod Pages
+pub mod Retries
+pub mod Robots
+pub mod Sessions
+pub mod Tickets
+pub mod Toy
+pub mod TwoHosts
