@@ -6,7 +6,7 @@ use native.Mathlib.Decide.{ℕ_discrete}
 use lib.ListN.{get_elem?}
 use prog.Atomic.{either}
 use Rattle.atomic_table.proofs.Lists.{at_set, set_else}
-use Rattle.turn_lock.specs.Duties.{Advances, Forks, Merges, Tells, Shows, Few, Alone, Ends}
+use Rattle.turn_lock.specs.Duties.{Advances, Forks, Merges, Tells, Shows, Ends}
 use Rattle.turn_bench.specs.declared.share.Share.{Share}
 use Rattle.turn_bench.specs.Shares.{highest, whole, MayDraw, more, dealt_room, kept, dealt, joined, nobody, total, made_of, left_of, Fits, Balanced, HasRoom, IsSmall}
 use Rattle.turn_bench.proofs.Places.{snoc_at}
@@ -31,12 +31,6 @@ begins start fits = record { owner = λ _. 0; each = first; made = omega arith; 
     first : (j : ℕ) (v : Share) → get_elem? (whole start ∷ []) j ≡ some v → Fits (λ _. 0) j v
     first zero v e = subst (Fits (λ _. 0) 0) (some-injective (whole start) v e) (record { owns = λ n l h. refl; few = omega arith; empty = λ none. absurd (omega arith) })
     first (suc j) v e = absurd (some-ne-none v (sym e))
-
-pub few : (start : ℕ) → Few (Balanced start) MayDraw (λ v. v.first)
-few start x views b = (
-  (λ j v at may. let l = (b.each j v at).few in let m : v.first < v.end = may in omega arith),
-  λ i j u v p q may able same. sym ((b.each i u p).owns u.first (omega arith) may) ∙ ap b.owner same ∙ (b.each j v q).owns v.first (omega arith) able,
-)
 
 pub advances : (start id : ℕ) (v : Share) (x : ℕ) → v.first < v.end → 0 < v.left → Advances (Balanced start) MayDraw id v x (x + 1) (λ v _ _ w. w ≡ more v)
 advances start id v x may some_left views b at = let f = b.each id v at in
@@ -117,10 +111,6 @@ merges start id v other w some_v some_w adjacent x views b at apart there = let 
   where
     less : (a b : ℕ) → ¬ (b ≤ a) → a < b
     less a b late = omega arith
-
-pub alone : (start id : ℕ) (v : Share) → v.first ≡ 0 → v.end ≡ 32 → Alone (Balanced start) MayDraw id v
-alone start id v all to x views b at j u p may = let f = b.each id v at in let g = b.each j u p in let small = g.few in let able : u.first < u.end = may in
-    sym (g.owns u.first (omega arith) may) ∙ f.owns u.first (omega arith) (omega arith)
 
 pub ends : (start id : ℕ) (v : Share) (x : ℕ) → v.first ≡ 0 → v.end ≡ 32 → Ends (Balanced start) id v x → x ≡ start + v.made
 ends start id v x all to e = let b = e.1 in let mine = b.each id v e.2 in

@@ -8,6 +8,7 @@ use Rattle.turn_bench.specs.declared.share.Share.{Share}
 abbrev pub highest : ℕ
 highest = 18446744073709551615
 
+-- a share of these four numbers
 abbrev pub share : ℕ → ℕ → ℕ → ℕ → Share
 share first end made left = record { first = first; end = end; made = made; left = left }
 
@@ -31,6 +32,7 @@ dealt_room = 1099511627776
 abbrev pub kept : Share → Share
 kept v = share v.first (v.end - 1) v.made (v.left - dealt_room)
 
+-- what the new part has
 abbrev pub dealt : Share → Share
 dealt v = share (v.end - 1) v.end 0 dealt_room
 
@@ -38,6 +40,7 @@ dealt v = share (v.end - 1) v.end 0 dealt_room
 abbrev pub joined : Share → Share → Share
 joined v w = share v.first w.end (v.made + w.made) (v.left + w.left)
 
+-- a share of nothing
 abbrev pub nobody : Share
 nobody = share 0 0 0 0
 
@@ -46,9 +49,11 @@ abbrev pub total : (Share → ℕ) → List Share → ℕ
 total f [] = 0
 total f (v ∷ vs) = f v + total f vs
 
+-- how much a share has added
 abbrev pub made_of : Share → ℕ
 made_of v = v.made
 
+-- how much a share may add
 abbrev pub left_of : Share → ℕ
 left_of v = v.left
 

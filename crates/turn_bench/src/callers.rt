@@ -25,7 +25,8 @@ fn add_all<R: Wait>(rt: &R, tally: &Tally, part: &mut Part, turns: u64)
 fn all_add<R: Threads + Wait + Sync>(rt: &R, tally: &Tally, parts: &mut [Part], turns: u64)
     requires some { 0 < length parts.old }
     requires ready { All (IsReady tally.now.lock.table.shared.table_id turns) parts.old }
-    ensures { (k : ℕ) (d : Part) → k < length parts.old → HasAdded tally.now.lock.table.shared.table_id turns (slice_index_or parts.old k d) (slice_index_or parts.new k d) }
+    ensures { (k : ℕ) (d : Part) → k < length parts.old
+        → HasAdded tally.now.lock.table.shared.table_id turns (slice_index_or parts.old k d) (slice_index_or parts.new k d) }
 {
     let threads = parts.len();
     thread::for_each_mut(
@@ -49,7 +50,8 @@ fn deal_all(
     requires own { IsPassOf tally.now.lock first.pass }
     requires all { (first.first ≡ 0) × (first.end ≡ 32) × (first.made ≡ 0) × (first.left ≡ u64.MAX) }
     requires some { (0 < callers) × (callers ≤ 32) }
-    ensures { IfOk result (λ v. (length v.items ≡ callers) × AreDealt tally.now.lock.table.shared.table_id callers 0 DEALT_ROOM v.items) }
+    ensures { IfOk result (λ v. (length v.items ≡ callers)
+        × AreDealt tally.now.lock.table.shared.table_id callers 0 DEALT_ROOM v.items) }
 {
     let mut parts = Vec::new(alloc);
     for _ in 1..callers {
@@ -103,7 +105,7 @@ fn add_under<R: Wait>(rt: &R, total: &Mutex<u64>, turns: u64) {
 }
 
 /// The same under a `Mutex` of std, to compare. No clause says what the value is.
-pub fn count_under_mutex<R: Threads + Wait + Sync>(
+pub(crate) fn count_under_mutex<R: Threads + Wait + Sync>(
     rt: &R,
     alloc: Global,
     callers: u32,

@@ -22,7 +22,9 @@ pub struct Tally {
 impl Tally {
     /// A tally that begins at `total`, and its first part, which has all 32 numbers.
     pub fn new(alloc: Global, total: u64) -> Result<(Tally, Part), AllocError>
-        ensures { IfOk result (λ t. (start t.0.lock ≡ total) × IsPassOf t.0.lock t.1.pass × (t.1.first ≡ 0) × (t.1.end ≡ 32) × (t.1.made ≡ 0) × (t.1.left + total ≡ u64.MAX)) }
+        ensures lock { IfOk result (λ t. (start t.0.lock ≡ total) × IsPassOf t.0.lock t.1.pass) }
+        ensures part { IfOk result
+            (λ t. (t.1.first ≡ 0) × (t.1.end ≡ 32) × (t.1.made ≡ 0) × (t.1.left + total ≡ u64.MAX)) }
     {
         match Lock::new(alloc, total, total) {
             Ok((lock, pass)) => {
@@ -74,8 +76,10 @@ impl Tally {
         requires two { part.old.first + 1 < part.old.end }
         requires room { DEALT_ROOM ≤ part.old.left }
         ensures own { IsPassOf self.now.lock part.new.pass × IsPassOf self.now.lock result.pass }
-        ensures kept { (part.new.first ≡ part.old.first) × (part.new.end + 1 ≡ part.old.end) × (part.new.made ≡ part.old.made) × (part.new.left + DEALT_ROOM ≡ part.old.left) }
-        ensures dealt { (result.first ≡ part.new.end) × (result.end ≡ part.old.end) × (result.made ≡ 0) × (result.left ≡ DEALT_ROOM) }
+        ensures kept { (part.new.first ≡ part.old.first) × (part.new.end + 1 ≡ part.old.end)
+            × (part.new.made ≡ part.old.made) × (part.new.left + DEALT_ROOM ≡ part.old.left) }
+        ensures dealt { (result.first ≡ part.new.end) × (result.end ≡ part.old.end)
+            × (result.made ≡ 0) × (result.left ≡ DEALT_ROOM) }
     {
         let pass = self.lock.split_pass::<Deal>(&mut part.pass);
         let end = part.end;

@@ -13,8 +13,8 @@ use Rattle.atomic_table.proofs.Lists.{at_longer, at_map, set_again, set_else}
 use Rattle.turn_lock.specs.declared.Doing.{Doing}
 use Rattle.turn_lock.specs.declared.Stage.{Stage}
 use Rattle.turn_lock.specs.declared.Stage.TheVariants.{Idle, Waiting, Holding}
-use Rattle.turn_lock.specs.Turn.{client, HasTurn, HasTicket, doing, idle, Stands, NoneHasTurn, SomeHasTurn, OneHasTurn, InTurn}
-use Rattle.turn_lock.specs.Plays.{Known, HasBy, Has, Draws, Looks, Counts, Serves, Learns, Knows}
+use Rattle.turn_lock.specs.Turn.{client, HasTurn, HasTicket, doing, idle, Stands, NoneHasTurn, SomeHasTurn, InTurn}
+use Rattle.turn_lock.specs.Plays.{Known, HasBy, Draws, Looks, Counts, Serves, Learns, Knows}
 use Rattle.turn_lock.specs.Duties.{Advances, Forks, Merges, Tells, Shows, Few, Alone, Ends}
 use Rattle.turn_lock.proofs.Few.{few_out, ticket_is}
 use Rattle.turn_lock.proofs.Lines.{set_there, one_at, only, stay, stay_more, none_before, same_clients, line_stay, one_ticket, stands_may, holder, stands_draw, stands_count, stands_serve}
@@ -33,9 +33,6 @@ module _ {S V : Type 0} where
   has_by_one : (me : Known S V) (t t' : ℕ) (x x' y y' : S) → HasBy t me x y → HasBy t' me x' y' → (t ≡ t') × (x ≡ x') × (y ≡ y')
   has_by_one me t t' x x' y y' h k = (ap ticket_of (sym h.0 ∙ k.0), ap (noted x) (sym h.0 ∙ k.0), ap (λ (l : List (ℕ × S)). (get_or l 0 (0, y)).1) (sym h.1 ∙ k.1))
 
-  pub has_one : (me : Known S V) (x x' y y' : S) → Has me x y → Has me x' y' → (x ≡ x') × (y ≡ y')
-  has_one me x x' y y' h k = let e = has_by_one me h.0 k.0 x x' y y' h.1 k.1 in (e.1, e.2)
-
   -- what a step on the word i shows, at the words ws
   abbrev Goes : (State S (Doing S V) → Type 0) → List (Option S) → List (Doing S V) → ℕ → ℕ → Known S V → (ℕ → ℕ) → (ℕ → Known S V → Type 0) → List ℕ → Type 0
   Goes rule homes views i id me f then ws =
@@ -50,9 +47,6 @@ module _ {S V : Type 0} where
     -- the seat of a view that has the turn
     holds_by : (s : State S (Doing S V)) (r : Rule s) (j : ℕ) (d : Doing S V) → get_elem? s.views j ≡ some d → HasTurn d.stage → (r.who r.serving ≡ j) × may d.client
     holds_by s r j d e has = holder may r.ticket r.serving r.who r.now j d.client d.stage has (r.each j d e)
-
-    pub one_has : (s : State S (Doing S V)) → Rule s → OneHasTurn s.views
-    one_has s r i j d e p q h k = sym (holds_by s r i d p h).0 ∙ (holds_by s r j e q k).0
 
     -- where the ticket that is served is that of a seat without the turn, none has the turn
     none_has : (s : State S (Doing S V)) (r : Rule s) (id : ℕ) (me : Doing S V) → get_elem? s.views id ≡ some me → r.who r.serving ≡ id → ¬ HasTurn me.stage → NoneHasTurn s.views

@@ -1,10 +1,12 @@
 -- The rule of the turn lock, as plain data.
 --
--- Callers draw the tickets 0, 1, 2 and so on, and the tickets are served in that order. One slot has the value. Word 0 counts what was done to the value,
--- word 1 is the ticket to draw next, and word 2 the ticket that is served. Each word is a number modulo 2 ^ 64. The numbers themselves, which proofs alone see, have no bound.
+-- Callers draw the tickets 0, 1, 2 and so on, and the tickets are served in that order. One slot has the value.
+-- Word 0 counts what was done to the value, word 1 is the ticket to draw next, and word 2 the ticket that is served.
+-- Each word is a number modulo 2 ^ 64. The numbers themselves, which proofs alone see, have no bound.
 --
 -- Between any two steps:
--- * The ticket served is at most the ticket to draw next, and each ticket from the first to before the second is in the hands of one view, which waits for its turn or has the turn.
+-- * The ticket that is served is at most the ticket to draw next. Each ticket from the first to before the second is
+--   in the hands of one view, which waits for its turn or has the turn.
 -- * A view has the turn only by the ticket that is served. So no two views have it at once.
 -- * While a view has the turn the slot is out with it, and else the slot is home, with the value.
 -- * The caller's rule holds of the value at the last count and of all views.
@@ -40,7 +42,8 @@ module _ {S V : Type 0} where
   abbrev pub idle : V → Doing S V
   idle v = doing Idle v
 
-  -- What the rule says of the view of seat j. A ticket t is one that this seat drew, and its client may draw. The holder notes the value at the last count
+  -- What the rule says of the view of seat j: its ticket t is one that this seat drew and that is not served yet, its
+  -- client may draw, and if it has the turn, its ticket is served and it notes the value at the last count
   abbrev pub Stands : ℕ → ℕ → (ℕ → ℕ) → S → (V → Type 0) → ℕ → V → Stage S → Type 0
   Stands ticket serving who now may j v Idle = Unit {0}
   Stands ticket serving who now may j v (Waiting t) = (serving ≤ t) × (t < ticket) × (who t ≡ j) × may v
@@ -58,7 +61,7 @@ module _ {S V : Type 0} where
   abbrev pub OneHasTurn : List (Doing S V) → Type 0
   OneHasTurn views = (i j : ℕ) (d e : Doing S V) → get_elem? views i ≡ some d → get_elem? views j ≡ some e → HasTurn d.stage → HasTurn e.stage → i ≡ j
 
--- The rule. `ticket` is the one to draw next, `who` the seat that drew a ticket, and `now` the value at the last count
+-- The rule: `ticket` is the one to draw next, `who` the seat that drew a ticket, and `now` the value at the last count
 pub record InTurn {S V : Type 0} (count : S → ℕ) (may : V → Type 0) (holds : S → List V → Type 0) (s : State S (Doing S V)) : Type 0 where
   pub ticket : ℕ
   pub serving : ℕ

@@ -7,8 +7,8 @@ ghost use Rattle.turn_lock.specs.Passes.{view, start, IsPassOf};
 use crate::{Pass, Protocol, TurnLock};
 
 impl<S, V, P: Protocol<S, V>> TurnLock<S, V, P> {
-    /// The value comes back, with what the rule says of it and of all views. The pass is idle, and no other may draw a ticket any more, so none
-    /// has the turn.
+    /// The value comes back, with what the rule says of it and of all views. The pass is idle, and no other may draw a
+    /// ticket any more, so none has the turn.
     pub fn close(self, pass: Pass<S, V>) -> S
         requires own { IsPassOf self pass }
         requires idle { IsIdle pass.me }

@@ -8,7 +8,7 @@ ghost use Rattle.turn_lock.specs.Lending.{LendsValue};
 use crate::{Pass, Protocol, TurnLock};
 
 impl<S, V, P: Protocol<S, V>> TurnLock<S, V, P> {
-    /// Lends the value to the pass that has the turn. What is written is part of the caller's rule from the next count on.
+    /// Lends the value to the pass that has the turn. The rule speaks of what is written from the next count on.
     pub fn value_mut<'a>(pass: &'a mut Pass<S, V>, lock: &'a TurnLock<S, V, P>) -> &'a mut S
         requires own { IsPassOf lock.now pass.old }
         requires held { (x : S) × (y : S) × Has pass.old.me x y }

@@ -1,9 +1,10 @@
 //! A value that several callers use in turns, under a rule of their own: a ticket lock over one slot of a table.
 //!
-//! Each caller has a `Pass`, which has no bytes. `take` waits for the turn, and `value_mut` lends the value to the pass that has it. `count` makes
-//! what was written part of the rule, and `serve` gives the turn to the next. What a pass knows is its view, which proofs alone see, and the rule
-//! ties the views of all passes to the one value. `split_pass` and `join_pass` cut views and put them together, `learn` and `know` tell what the
-//! rule says, and `close` gives the value back. At most 32 passes may draw, each under a number of its own.
+//! Each caller has a `Pass`, which has no bytes. `take` waits for the turn, and `value_mut` lends the value to the pass
+//! that has it. `count` makes what was written part of the rule, and `serve` gives the turn to the next. What a pass
+//! knows is its view, which proofs alone see, and the rule ties the views of all passes to the one value. `split_pass`
+//! and `join_pass` cut views and put them together, `learn` and `know` tell what the rule says, and `close` gives the
+//! value back. At most 32 passes may draw, each under a number of its own.
 #![tactic(auto)]
 
 ghost use Rattle.std.specs.Prelude.{ℕ, List, ◌≡◌, ◌∷◌, []};

@@ -25,7 +25,8 @@ const SERVING: usize = 2;
 const PATIENCE: u32 = 1000;
 
 impl<S, V, P: Protocol<S, V>> TurnLock<S, V, P> {
-    /// A lock over `value`, and its first pass. `count` is what the rule counts of the value. Where memory runs out the value comes back.
+    /// A lock over `value`, and its first pass. `count` is what the rule counts of the value. Where memory runs out the
+    /// value comes back.
     pub fn new(
         alloc: Global,
         value: S,
@@ -58,8 +59,8 @@ impl<S, V, P: Protocol<S, V>> TurnLock<S, V, P> {
         }
     }
 
-    /// Mutual exclusion, as a law: it does nothing. The rule holds of the table between any two steps, and in each state of which it holds
-    /// no two passes have the turn, the slot is out while one has it, and else the slot is home with the value.
+    /// Mutual exclusion, as a law: the call does nothing. In each state of which the rule holds, as it does between any
+    /// two steps, no two passes have the turn, the slot is out while one has it, and else it is home with the value.
     pub fn exclude(&self)
         ensures one { (s : State S (Doing S V)) → InTurn P.count P.may (P.holds (start self.now)) s → OneHasTurn s.views }
         ensures out { (s : State S (Doing S V)) → InTurn P.count P.may (P.holds (start self.now)) s
@@ -68,8 +69,8 @@ impl<S, V, P: Protocol<S, V>> TurnLock<S, V, P> {
             → NoneHasTurn s.views → s.homes ≡ some rule.now ∷ [] }
     {}
 
-    /// Waits until the pass has the turn, and yields the processor while it waits. The value is then out with the pass, as it was at the
-    /// last count.
+    /// Waits until the pass has the turn, and yields the processor while it waits. The value is then out with the pass, as
+    /// it was at the last count.
     pub fn take<R: Wait>(&self, rt: &R, pass: &mut Pass<S, V>)
         requires own { IsPassOf self.now pass.old }
         requires idle { IsIdle pass.old.me × P.may (view pass.old) }
@@ -88,8 +89,8 @@ impl<S, V, P: Protocol<S, V>> TurnLock<S, V, P> {
         unreachable!()
     }
 
-    // Waits, but not for ever, until no ticket is out. Tickets are served in order, so where many threads have one, each turn waits until the
-    // processor comes to the one thread whose turn it is.
+    // Waits, but not for ever, until no ticket is out. Tickets are served in order, so where many threads have one, each
+    // turn waits until a processor comes to the one thread whose turn it is.
     fn await_lull(&self) {
         for _ in 0..PATIENCE {
             if self.table.shared.peek(TICKET) == self.table.shared.peek(SERVING) {
@@ -99,8 +100,8 @@ impl<S, V, P: Protocol<S, V>> TurnLock<S, V, P> {
         }
     }
 
-    /// Counts `more`, with which the change of the value since the last count becomes part of the rule, as does the pass's new view. The pass
-    /// keeps the turn.
+    /// Counts `more`, with which the change of the value since the last count becomes part of the rule, as does the
+    /// pass's new view. The pass keeps the turn.
     pub fn count<M: Outcome<S, V>>(&self, pass: &mut Pass<S, V>, more: u64)
         requires own { IsPassOf self.now pass.old }
         requires held { (x : S) × (y : S) × Has pass.old.me x y × (P.count y ≡ P.count x + more)
@@ -112,7 +113,7 @@ impl<S, V, P: Protocol<S, V>> TurnLock<S, V, P> {
         self.table.shared.fetch_add::<Count<M>>(pass, COUNT, more);
     }
 
-    /// Gives the turn to the next. The value is as it was at the last count: what was written since has to be counted first.
+    /// Gives the turn to the next. The value is as it was at the last count: what was written since is to be counted first.
     pub fn serve(&self, pass: &mut Pass<S, V>)
         requires own { IsPassOf self.now pass.old }
         requires held { (x : S) × Has pass.old.me x x }
@@ -132,7 +133,8 @@ impl<S, V, P: Protocol<S, V>> TurnLock<S, V, P> {
         self.table.shared.load::<Learn<M>>(pass, COUNT);
     }
 
-    /// Tells what the rule says of the pass's view and of the value at the last count, if the pass has the turn. It changes nothing.
+    /// Tells what the rule says of the pass's view and of the value at the last count, if the pass has the turn. It
+    /// changes nothing.
     pub fn know<M: Insight<S, V>>(&self, pass: &mut Pass<S, V>)
         requires own { IsPassOf self.now pass.old }
         requires rule { Shows (P.holds (start self.now)) pass.old.id (view pass.old) M.told }
