@@ -1,0 +1,7 @@
+-- A `Said` owns nothing, so it may be sent.
+use denote.RattleType.{RattleType}
+use denote.Param.Send.{IsSend}
+use Rattle.said.specs.contracts.Said.{the_row}
+
+pub send : (T : RattleType) → IsSend (the_row T)
+send T = record { owned = λ d vs. ((λ vss. (tt, ((λ uss. (tt, tt)), tt))), tt); leaving = λ k f vs. tt }

@@ -1,0 +1,4 @@
+pub mod Places
+pub mod Totals
+pub mod Tallies
+pub mod Dealing
