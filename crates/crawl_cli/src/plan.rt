@@ -1,0 +1,71 @@
+// What is to be written and shown for the seeds.
+ghost use Rattle.std.specs.Prelude.{◌≡◌, ◌<◌, ◌^◌, All, true, IfOk, codes};
+ghost use Rattle.std.specs.List.{flat_map};
+ghost use Rattle.journal_spec.specs.Journal.{spelling};
+ghost use Rattle.gate_log.specs.Blocks.{IsBody};
+ghost use Rattle.seed_lines.specs.Seeds.{is_seed};
+ghost use Rattle.crawl_cli.specs.Top.{block_of, IsShown};
+
+use crate::queue::{queue_of, queue_text};
+use crawl_kinds::{Copied, Event, Key, Millis, NoMemory, TextFault, Uris};
+use gate_log::Frame;
+use journal_lines::event_lines;
+use seed_lines::adds_of;
+use std::alloc::Global;
+
+/// The journal block, and the text of the queue.
+#[derive(Drop)]
+pub struct Plan {
+    pub frame: Frame,
+    pub shown: Vec<u8>,
+}
+
+/// The name that stands for the job until there is one.
+fn no_job(alloc: Global) -> Result<Key, NoMemory>
+    ensures { IfOk result (λ name. name ≡ codes "none") }
+{
+    match Key::new(alloc, "none") {
+        Ok(name) => Ok(name),
+        Err(TextFault::NoMemory) => Err(NoMemory),
+        Err(TextFault::TooLong { .. }) => unreachable!(),
+        Err(TextFault::BadByte { .. }) => unreachable!(),
+    }
+}
+
+/// The lines of events.
+fn lines_of(alloc: Global, events: &[Event]) -> Result<Vec<u8>, NoMemory>
+    ensures { IfOk result (λ text. text.items ≡ flat_map spelling events.now) }
+{
+    let mut text = Vec::new(alloc);
+    for event in events {
+        event_lines(event, &mut text)?;
+    }
+    Ok(text)
+}
+
+/// The block of seeds at a time, and the queue of what they add.
+pub fn make_plan(alloc: Global, time: Millis, seeds: Uris) -> Result<Plan, NoMemory>
+    requires forms { All (λ seed. is_seed seed ≡ true) seeds }
+    requires body { IsBody (block_of time seeds) }
+    ensures { IfOk result (λ plan. (plan.frame ≡ block_of time seeds) × IsShown seeds plan.shown.items) }
+{
+    let adds = adds_of(alloc, seeds.as_slice())?;
+    let queue = queue_of(adds.copy()?)?;
+    let shown = queue_text(alloc, queue.as_slice())?;
+    let session = Event::Session {
+        time,
+        job: no_job(alloc)?,
+        format: 1,
+    };
+    let opening = [
+        session,
+        Event::Seeds {
+            time,
+            list: seeds,
+            adds,
+        },
+    ];
+    let body = lines_of(alloc, &opening)?;
+    let frame = Frame::of(alloc, &body)?;
+    Ok(Plan { frame, shown })
+}
