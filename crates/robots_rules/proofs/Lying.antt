@@ -1,7 +1,8 @@
 -- How a pattern lies on a path, octet by octet, and after a run.
-use Rattle.std.proofs.Common.{◌≡◌, ◌≢◌, ◌↔◌, ℕ, ◌+◌, ◌*◌, ◌-◌, ◌<◌, ◌≤◌, false, ◌&&◌, ◌==◌, List, [], ◌∷◌, ◌++◌, length, get_or, take, drop, refl, append_assoc, sym, ◌∙◌, ap, arith, length-drop, length-append, length-take, take-append-drop}
+use Rattle.std.proofs.Common.{◌≡◌, ◌≢◌, ◌↔◌, ℕ, suc, ◌+◌, ◌*◌, ◌-◌, ◌<◌, ◌≤◌, Bool, true, false, not, cond, ◌&&◌, ◌==◌, List, [], ◌∷◌, ◌++◌, length, get_or, take, drop, refl, append_assoc, sym, ◌∙◌, ap, arith, length-drop, length-append, length-take, take-append-drop}
 use Rattle.std.proofs.lemmas.Bool.Decides.{nat_tests}
 use Rattle.std.proofs.lemmas.List.{drop_more, drop_all, drop-append-le}
+use Rattle.std.specs.List.{position_or_len}
 use Rattle.robots_spec.specs.Lines.{is_star}
 use Rattle.robots_spec.specs.Patterns.{LiesOn, AfterRun, FollowedBy, is_dollar}
 use Rattle.robots_rules.specs.Matching.{IsStarAt}
@@ -156,20 +157,51 @@ cost-star now next p r n most step in_pattern in_path bound =
     let bound' : now + (n + 1 + a + 1) * (n + b + 1) ≤ most = rw (p-is, r-is) at bound in
     omega arith
 
-pub cost-differs : (now next p r most : ℕ) → next ≤ now + p → 0 < r → now + (p + 1) * (r + 1) ≤ most → next + (p + 1) * (r - 1 + 1) ≤ most
-cost-differs now next p r most step some bound =
-    let b = r - 1 in
-    let r-is : r ≡ b + 1 = omega arith in
-    let bound' : now + (p + 1) * (b + 1 + 1) ≤ most = rw r-is at bound in
-    omega arith
-
 -- after the octets up to a `*`, and after one place more, the same is asked as before
 pub same-star : (pattern path next left : List ℕ) (n : ℕ) (P : Type 0) → IsStarAt pattern path n → next ≡ drop (n + 1) pattern → left ≡ drop n path → (AfterRun (LiesOn pattern) path ↔ P) → AfterRun (LiesOn next) left ↔ P
 same-star pattern path next left n P star next-is left-is same =
     let step = run-star pattern path n star in
     (λ h. same.0 (step.0 (rw (next-is, left-is) at h)), λ p. rw (next-is, left-is) (step.1 (same.1 p)))
 
-pub same-differs : (pattern path left : List ℕ) (P : Type 0) → ¬ LiesOn pattern path → 0 < length path → left ≡ drop 1 path → (AfterRun (LiesOn pattern) path ↔ P) → AfterRun (LiesOn pattern) left ↔ P
-same-differs pattern path left P never some left-is same =
+pub same-differs : (pattern path left place : List ℕ) (P : Type 0) → ¬ LiesOn pattern path → 0 < length path → left ≡ drop 1 path → (AfterRun (LiesOn pattern) place ↔ AfterRun (LiesOn pattern) left) → (AfterRun (LiesOn pattern) path ↔ P) → AfterRun (LiesOn pattern) place ↔ P
+same-differs pattern path left place P never some left-is places same =
     let step = run-differs pattern path never some in
-    (λ h. same.0 (step.0 (rw left-is at h)), λ p. rw left-is (step.1 (same.1 p)))
+    (λ h. same.0 (step.0 (rw left-is at (places.0 h))), λ p. places.1 (rw left-is (step.1 (same.1 p))))
+
+pub cost-next : (now compared next p r left place most : ℕ) → compared ≤ now + p → left + 1 ≡ r → next + place ≤ compared + left → place ≤ left → now + (p + 1) * (r + 1) ≤ most → next + (p + 1) * (place + 1) ≤ most
+cost-next now compared next p r left place most step one passed shorter bound =
+    let more = left - place in
+    let r-is : r ≡ place + more + 1 = omega arith in
+    let bound' : now + (p + 1) * (place + more + 1 + 1) ≤ most = rw r-is at bound in
+    omega arith
+
+-- ---- the next place
+
+skip-here : (pattern : List ℕ) (b c : ℕ) (path : List ℕ) → (c == b) ≡ true → AfterRun (LiesOn pattern) (drop (position_or_len (λ d. d == b) (c ∷ path)) (c ∷ path)) ↔ AfterRun (LiesOn pattern) (c ∷ path)
+skip-here pattern b c path e =
+    let none : position_or_len (λ d. d == b) (c ∷ path) ≡ 0 = ap (λ t. cond (not t) (1 + position_or_len (λ d. d == b) path) 0) e in
+    let same : drop (position_or_len (λ d. d == b) (c ∷ path)) (c ∷ path) ≡ c ∷ path = ap (λ n. drop n (c ∷ path)) none in
+    (λ h. rw same at h, λ h. rw same h)
+
+drop-one-more : (n c : ℕ) (path : List ℕ) → drop (1 + n) (c ∷ path) ≡ drop n path
+drop-one-more n c path = let e : 1 + n ≡ suc n = omega arith in rw e refl
+
+skip-there : (pattern : List ℕ) (b c : ℕ) (path : List ℕ) → IsPlainAt pattern 0 b → (c == b) ≡ false → AfterRun (LiesOn pattern) (drop (position_or_len (λ d. d == b) path) path) ↔ AfterRun (LiesOn pattern) path → AfterRun (LiesOn pattern) (drop (position_or_len (λ d. d == b) (c ∷ path)) (c ∷ path)) ↔ AfterRun (LiesOn pattern) (c ∷ path)
+skip-there pattern b c path plain-b e rest =
+    let one : position_or_len (λ d. d == b) (c ∷ path) ≡ 1 + position_or_len (λ d. d == b) path = ap (λ t. cond (not t) (1 + position_or_len (λ d. d == b) path) 0) e in
+    let same : drop (position_or_len (λ d. d == b) (c ∷ path)) (c ∷ path) ≡ drop (position_or_len (λ d. d == b) path) path = ap (λ n. drop n (c ∷ path)) one ∙ drop-one-more _ c path in
+    let other : c ≢ b = grind (arith, nat_tests) in
+    let step = run-differs pattern (c ∷ path) (so_far-differs pattern (c ∷ path) 0 b (so_far-start pattern (c ∷ path)) plain-b (omega arith) other) (omega arith) in
+    (λ h. step.0 (rest.0 (rw same at h)), λ h. rw same (rest.1 (step.1 h)))
+
+by_octet : (pattern : List ℕ) (b c : ℕ) (path : List ℕ) → IsPlainAt pattern 0 b → (t : Bool) → (c == b) ≡ t → AfterRun (LiesOn pattern) (drop (position_or_len (λ d. d == b) path) path) ↔ AfterRun (LiesOn pattern) path → AfterRun (LiesOn pattern) (drop (position_or_len (λ d. d == b) (c ∷ path)) (c ∷ path)) ↔ AfterRun (LiesOn pattern) (c ∷ path)
+by_octet pattern b c path plain-b true e rest = skip-here pattern b c path e
+by_octet pattern b c path plain-b false e rest = skip-there pattern b c path plain-b e rest
+
+-- where the pattern begins with an octet that stands for itself, it lies only where that octet stands
+skip-octet : (pattern : List ℕ) (b : ℕ) → IsPlainAt pattern 0 b → (path : List ℕ) → AfterRun (LiesOn pattern) (drop (position_or_len (λ c. c == b) path) path) ↔ AfterRun (LiesOn pattern) path
+skip-octet pattern b plain-b [] = (λ h. h, λ h. h)
+skip-octet pattern b plain-b (c ∷ path) = by_octet pattern b c path plain-b (c == b) refl (skip-octet pattern b plain-b path)
+
+pub next-place : (pattern path : List ℕ) → 2 ≤ length pattern → get_or pattern 0 0 ≢ 42 → AfterRun (LiesOn pattern) (drop (position_or_len (λ c. c == get_or pattern 0 0) path) path) ↔ AfterRun (LiesOn pattern) path
+next-place pattern path h star = skip-octet pattern (get_or pattern 0 0) (plain pattern 0 (omega arith) star (λ _ e. omega arith)) path

@@ -3,7 +3,7 @@ ghost use Rattle.std.specs.Prelude.{◌≡◌, ◌↔◌, ◌+◌, ◌*◌, ◌<
 ghost use Rattle.robots_spec.specs.Patterns.{LiesOn, AfterRun, Matches};
 ghost use Rattle.robots_rules.specs.Matching.{IsCompared, compare_cost};
 
-use crate::line::from;
+use crate::line::{first_of, from};
 use crate::steps::Steps;
 use std::marker::Brand;
 use std::sync::ledger::{Blank, Ledger};
@@ -50,6 +50,24 @@ fn behind(pattern: &[u8], at: usize) -> &[u8]
     &pattern[at + 1..]
 }
 
+/// The path from the first place on at which the pattern can lie: where it begins with an octet that stands for itself, and is
+/// no last octet, that octet's next place. A step is an octet of the path that is passed over.
+fn next_place<'a, L: Ledger>(pattern: &[u8], path: &'a [u8], steps: &mut Steps<L>) -> &'a [u8]
+    ensures same { AfterRun (LiesOn pattern.now) result.now ↔ AfterRun (LiesOn pattern.now) path.now }
+    ensures shorter { length result.now ≤ length path.now }
+    ensures cost { steps.new + length result.now ≤ steps.old + length path.now }
+{
+    if pattern.len() < 2 {
+        return path;
+    }
+    if pattern[0] == b'*' {
+        return path;
+    }
+    let passed = first_of(path, pattern[0]);
+    steps.tick_often(passed);
+    from(path, passed)
+}
+
 /// Whether the pattern lies on the path after some run of octets. Where its octets up to a `*` lie at the first place that
 /// serves, no other place serves better, since the `*` takes any run: so no place is tried again.
 fn lies_after_run<L: Ledger>(after: &[u8], all: &[u8], steps: &mut Steps<L>) -> bool
@@ -69,13 +87,14 @@ fn lies_after_run<L: Ledger>(after: &[u8], all: &[u8], steps: &mut Steps<L>) -> 
                 if path.is_empty() {
                     return false;
                 }
-                path = from(path, 1);
+                path = next_place(pattern, from(path, 1), steps);
             }
         }
     }
 }
 
-/// Whether the pattern lies on the path, in at most (m + 1)(n + 1) steps for m octets of the pattern and n of the path.
+/// Whether the pattern lies on the path, in at most (m + 1)(n + 1) steps for m octets of the pattern and n of the path. A step is
+/// an octet of the pattern that is compared, or one of the path that is passed over.
 fn lies_on<L: Ledger>(pattern: &[u8], path: &[u8], steps: &mut Steps<L>) -> bool
     ensures lies { IsTrue result ↔ LiesOn pattern.now path.now }
     ensures cost { steps.new ≤ steps.old + (length pattern.now + 1) * (length path.now + 1) }
