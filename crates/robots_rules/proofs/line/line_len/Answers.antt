@@ -1,0 +1,12 @@
+use Rattle.std.proofs.Common.{rules, tests, ◌≡◌, ◌∙◌, ap, length, unwrap_or}
+use Rattle.std.specs.Prelude.{position}
+use Rattle.std.proofs.lemmas.Iterator.{YieldsList-from_slice}
+use Rattle.std.proofs.lemmas.Iterator.Search.{position_from_yields_List}
+use Rattle.robots_spec.specs.Lines.{is_line_end}
+use Rattle.robots_rules.proofs.Scans.{position-unwrap}
+use Rattle.robots_rules.proofs.line.line_len.Goals as goal
+
+pub returns : goal.returns
+returns c =
+    let e : c.position.result ≡ position (λ b. is_line_end b) c.args.bytes.now = position_from_yields_List (λ b. is_line_end b) _ _ _ c.position.ensures.ran (YieldsList-from_slice c.args.bytes.now cc) (λ x b q k. search (rules, tests)) in
+    c.unwrap_or.ensures ∙ ap (λ o. unwrap_or o (length c.args.bytes.now)) e ∙ position-unwrap is_line_end c.args.bytes.now

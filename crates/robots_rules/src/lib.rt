@@ -1,0 +1,16 @@
+//! The rules of robots files (RFC 9309, in a stated profile): what a file says to an agent.
+#![tactic(auto)]
+
+mod collector;
+mod line;
+mod matching;
+mod normal;
+mod path;
+mod robots;
+mod steps;
+
+pub use path::robots_path;
+pub use robots::Robots;
+
+#[cfg(test)]
+mod tests;

@@ -1,0 +1,4 @@
+pub mod Lines
+pub mod Groups
+pub mod Patterns
+pub mod Verdict
