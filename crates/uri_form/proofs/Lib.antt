@@ -1,0 +1,12 @@
+pub mod AddressLaws
+pub mod Authority
+pub mod Cuts
+pub mod Fits
+pub mod IdLaws
+pub mod KeyBounds
+pub mod KeyLaws
+pub mod Marks
+pub mod RobotsLaws
+pub mod UriLaws
+pub mod Visible
+pub mod Www
