@@ -1,4 +1,5 @@
 pub mod FileLists
 pub mod Pieces
+pub mod Places
 pub mod Recording
 pub mod Written

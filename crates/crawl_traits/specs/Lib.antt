@@ -1,3 +1,4 @@
 pub mod Causes
+pub mod Exchanges
 pub mod Images
 pub mod Runs
