@@ -1,0 +1,12 @@
+use Rattle.std.proofs.Common.{rules, tests, ◌≡◌, ◌∙◌, ap, length, not, unwrap_or}
+use Rattle.std.specs.Prelude.{position}
+use Rattle.std.proofs.lemmas.Iterator.{YieldsList-from_slice}
+use Rattle.std.proofs.lemmas.Iterator.Search.{position_from_yields_List}
+use Rattle.link_spec.specs.Tags.{is_tag_name_byte}
+use Rattle.link_spec.proofs.Scans.{position-unwrap_not}
+use Rattle.html_links.proofs.segments.tag_name_len.Goals as goal
+
+pub returns-clause-count : goal.returns-clause-count
+returns-clause-count c =
+    let e : c.position.result ≡ position (λ b. not (is_tag_name_byte b)) c.args.bytes.now = position_from_yields_List (λ b. not (is_tag_name_byte b)) _ _ _ c.position.ensures.ran (YieldsList-from_slice c.args.bytes.now cc) (λ x b q k. search (rules, tests)) in
+    c.unwrap_or.ensures ∙ ap (λ o. unwrap_or o (length c.args.bytes.now)) e ∙ position-unwrap_not is_tag_name_byte c.args.bytes.now

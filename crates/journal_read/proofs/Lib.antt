@@ -1,0 +1,15 @@
+pub mod Answers
+pub mod Bodies
+pub mod Cells
+pub mod Codes
+pub mod EventLaws
+pub mod Fetches
+pub mod Grammar
+pub mod LineLaws
+pub mod Noted
+pub mod Numbers
+pub mod Redirects
+pub mod Remarks
+pub mod Same
+pub mod Texts
+pub mod Visible

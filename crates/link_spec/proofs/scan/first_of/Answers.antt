@@ -1,0 +1,11 @@
+use Rattle.std.proofs.Common.{rules, tests, ◌≡◌, ◌==◌, ◌∙◌, ap, length, unwrap_or}
+use Rattle.std.specs.Prelude.{position}
+use Rattle.std.proofs.lemmas.Iterator.{YieldsList-from_slice}
+use Rattle.std.proofs.lemmas.Iterator.Search.{position_from_yields_List}
+use Rattle.link_spec.proofs.Scans.{position-unwrap}
+use Rattle.link_spec.proofs.scan.first_of.Goals as goal
+
+pub returns-clause-place : goal.returns-clause-place
+returns-clause-place c =
+    let e : c.position.result ≡ position (λ b. b == c.args.byte) c.args.bytes.now = position_from_yields_List (λ b. b == c.args.byte) _ _ _ c.position.ensures.ran (YieldsList-from_slice c.args.bytes.now cc) (λ x b q k. search (rules, tests)) in
+    c.unwrap_or.ensures ∙ ap (λ o. unwrap_or o (length c.args.bytes.now)) e ∙ position-unwrap (λ b. b == c.args.byte) c.args.bytes.now

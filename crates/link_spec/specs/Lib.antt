@@ -1,0 +1,13 @@
+pub mod Cut
+pub mod Words
+pub mod Css
+pub mod Scripts
+pub mod Entities
+pub mod Attributes
+pub mod Tags
+pub mod Segments
+pub mod Values
+pub mod Elements
+pub mod Laws
+pub mod Worked
+pub mod Reading
