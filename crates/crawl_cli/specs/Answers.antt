@@ -47,6 +47,17 @@ IsEarly Done = ⊥
 IsEarly VolumeFault = ⊥
 IsEarly SinkFault = ⊥
 
+-- answered by every command before anything is written
+abbrev pub IsRefusal : Status → Type 0
+IsRefusal (Usage i) = Unit {0}
+IsRefusal (JobRefused fault) = Unit {0}
+IsRefusal JobThere = Unit {0}
+IsRefusal SourceFault = Unit {0}
+IsRefusal NoMemory = ⊥
+IsRefusal Done = ⊥
+IsRefusal VolumeFault = ⊥
+IsRefusal SinkFault = ⊥
+
 -- answered only where the journal was found to have no block
 abbrev pub IsPastJournal : Status → Type 0
 IsPastJournal Done = Unit {0}

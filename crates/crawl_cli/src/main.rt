@@ -2,9 +2,14 @@
 #![tactic(auto)]
 
 mod adapters;
+mod crawl;
+#[cfg(test)]
+mod crawl_tests;
 mod laws;
+mod opening;
 mod plan;
 mod queue;
+mod run;
 mod say;
 mod seeds;
 mod status;
@@ -15,11 +20,11 @@ mod tests;
 mod top;
 
 use adapters::{StdSink, StdSource};
-use crawl_memory::{MemClock, MemVolume};
+use crawl_memory::{MemClock, MemLink, MemVolume, Site};
+use run::run;
 use std::alloc::Global;
 use std::process::ExitCode;
 use std::{env, io};
-use top::tend;
 
 /// The moment of the clock in memory: 14 November 2023.
 const START: u64 = 1_700_000_000_000;
@@ -39,13 +44,16 @@ fn main(rt: HostRuntime) -> io::Result<ExitCode> {
     let mut source = StdSource::new(rt.stdin());
     let sink = StdSink::new(rt.stdout());
     let clock = MemClock::at(START);
-    let tended = tend(
+    let mut links = Vec::new(alloc);
+    links.push(MemLink::new(alloc, Site::new(alloc), Vec::new(alloc)))?;
+    let ran = run(
         alloc,
         &words,
         &mut source,
         MemVolume::new(alloc),
         sink,
+        links,
         &clock,
     );
-    Ok(ExitCode::from(tended.status.code()))
+    Ok(ExitCode::from(ran.status.code()))
 }

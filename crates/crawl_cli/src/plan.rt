@@ -1,15 +1,14 @@
 // What is to be written and shown for the seeds.
-ghost use Rattle.std.specs.Prelude.{◌≡◌, ◌<◌, ◌^◌, All, true, IfOk, codes};
-ghost use Rattle.std.specs.List.{flat_map};
-ghost use Rattle.journal_spec.specs.Journal.{spelling};
+ghost use Rattle.std.specs.Prelude.{◌≡◌, ◌<◌, ◌^◌, All, true, IfOk};
 ghost use Rattle.gate_log.specs.Blocks.{IsBody};
 ghost use Rattle.seed_lines.specs.Seeds.{is_seed};
 ghost use Rattle.crawl_cli.specs.Top.{block_of, IsShown};
 
+use crate::opening::no_job;
 use crate::queue::{queue_of, queue_text};
-use crawl_kinds::{Copied, Event, Key, Millis, NoMemory, TextFault, Uris};
+use crawl_kinds::{Copied, Event, Millis, NoMemory, Uris};
+use event_frames::lines_of;
 use gate_log::Frame;
-use journal_lines::event_lines;
 use seed_lines::adds_of;
 use std::alloc::Global;
 
@@ -18,29 +17,6 @@ use std::alloc::Global;
 pub struct Plan {
     pub frame: Frame,
     pub shown: Vec<u8>,
-}
-
-/// The name that stands for the job until there is one.
-fn no_job(alloc: Global) -> Result<Key, NoMemory>
-    ensures { IfOk result (λ name. name ≡ codes "none") }
-{
-    match Key::new(alloc, "none") {
-        Ok(name) => Ok(name),
-        Err(TextFault::NoMemory) => Err(NoMemory),
-        Err(TextFault::TooLong { .. }) => unreachable!(),
-        Err(TextFault::BadByte { .. }) => unreachable!(),
-    }
-}
-
-/// The lines of events.
-fn lines_of(alloc: Global, events: &[Event]) -> Result<Vec<u8>, NoMemory>
-    ensures { IfOk result (λ text. text.items ≡ flat_map spelling events.now) }
-{
-    let mut text = Vec::new(alloc);
-    for event in events {
-        event_lines(event, &mut text)?;
-    }
-    Ok(text)
 }
 
 /// The block of seeds at a time, and the queue of what they add.

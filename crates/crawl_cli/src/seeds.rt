@@ -1,5 +1,6 @@
 // The seeds that a source gives.
-ghost use Rattle.std.specs.Prelude.{◌≡◌, ◌≤◌, ◌<◌, [], List, ℕ, length, IsTrue, IfOk, IfErr, OnOk};
+ghost use Rattle.std.specs.Prelude.{◌≡◌, ◌≤◌, ◌<◌, [], List, ℕ, length, All, IsTrue, IfOk, IfErr, OnOk};
+ghost use Rattle.crawl_kinds.specs.Address.{IsUri};
 ghost use Rattle.crawl_traits.specs.Causes.{Rose};
 ghost use Rattle.seed_lines.specs.Seeds.{Reads};
 ghost use Rattle.crawl_cli.specs.Causes.{IsTextFault};
@@ -15,6 +16,7 @@ use std::alloc::Global;
 /// Reads the source to its end as seed lines.
 pub fn take_seeds<S: Source>(alloc: Global, source: &mut S) -> Result<Uris, Status>
     ensures seeds { IfOk result (AreSeedsOf (S.tells source.old) (S.left source.old)) }
+    ensures addresses { IfOk result (All IsUri) }
     ensures left { IsTrue (S.tells source.old) → OnOk result (S.left source.new ≡ []) }
     ensures later { S.faults source.old ≤ S.faults source.new }
     ensures fault { IfErr result (IsTextFault (Rose (S.faults source.old) (S.faults source.new))

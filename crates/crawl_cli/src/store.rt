@@ -1,10 +1,11 @@
 // The journal on the volume.
-ghost use Rattle.std.specs.Prelude.{◌≡◌, ◌≢◌, ◌≤◌, ◌<◌, [], ◌∷◌, length, IsTrue, OnOk, IfErr};
+ghost use Rattle.std.specs.Prelude.{◌≡◌, ◌≢◌, ◌≤◌, ◌<◌, [], ◌∷◌, length, IsTrue, OnOk, IfOk, IfErr};
 ghost use Rattle.crawl_traits.specs.Causes.{Rose, HasCause};
 ghost use Rattle.crawl_traits.specs.Images.{After, Fewer};
 ghost use Rattle.crawl_traits.specs.Runs.{LeavesOnly, IsSettled};
 ghost use Rattle.crawl_traits.specs.declared.file.FileId.{FileId};
 ghost use Rattle.gate_log.specs.Blocks.{at_rest};
+ghost use Rattle.gate_log.specs.Logs.{IsAtRest, file_of};
 ghost use Rattle.gate_log.specs.Rest.{CountsOneMore};
 ghost use Rattle.crawl_cli.specs.Causes.{IsVolumeFault};
 
@@ -37,8 +38,10 @@ pub fn check_empty<V: Volume>(volume: &mut V) -> Result<(), Status>
 }
 
 /// Writes the block as the journal's first. A crash at any moment of the call leaves a journal of at most one byte
-/// without a block, or with this one whole.
-pub fn commit<V: Volume>(volume: &mut V, block: &Frame) -> Result<(), Failed>
+/// without a block, or with this one whole. The log is ready for the next block.
+pub fn commit<V: Volume>(volume: &mut V, block: &Frame) -> Result<GateLog, Failed>
+    ensures file { IfOk result (λ log. file_of log ≡ FileId.Journal 0) }
+    ensures rests { IsTrue (V.tells volume.old) → IfOk result (λ log. IsAtRest V.Volume log volume.new (block.now ∷ [])) }
     ensures journal { IsTrue (V.tells volume.old) → OnOk result (V.contents volume.new (FileId.Journal 0) ≡ at_rest (block.now ∷ [])) }
     ensures others { IsTrue (V.tells volume.old) → (f : FileId) → f ≢ FileId.Journal 0 → V.contents volume.new f ≡ V.contents volume.old f }
     ensures tells { V.tells volume.new ≡ V.tells volume.old }
@@ -51,7 +54,7 @@ pub fn commit<V: Volume>(volume: &mut V, block: &Frame) -> Result<(), Failed>
         Err(_) => return Err(Failed),
     };
     match log.append(volume, block) {
-        Ok(()) => Ok(()),
+        Ok(()) => Ok(log),
         Err(_) => Err(Failed),
     }
 }

@@ -90,7 +90,7 @@ fn begin<V: Volume, S: Source, C: Clock>(
         Err(_) => return Err(Status::NoMemory),
     };
     match commit(volume, &plan.frame) {
-        Ok(()) => Ok(plan.shown),
+        Ok(_) => Ok(plan.shown),
         Err(_) => Err(Status::VolumeFault),
     }
 }

@@ -1,9 +1,12 @@
 -- Seed lines in their narrow form: `http://`, a host of labels, and a path.
---     is_seed line      whether the line is a seed
+--     is_seed line      whether the line has this form
+--     IsItself line      the line is an address, read as itself
 --     class_of uri      the name of its host's queue
 --     Reads text seeds      the text has these seeds as its lines
-use Rattle.std.specs.Prelude.{◌≡◌, ℕ, ◌+◌, ◌==◌, ◌&&◌, ◌||◌, Bool, true, nat_le, nat_eq, List, [], ◌∷◌, ◌++◌, length, drop, reverse, codes, All}
+use Rattle.std.specs.Prelude.{◌≡◌, ℕ, ◌+◌, ◌==◌, ◌&&◌, ◌||◌, Bool, true, nat_le, nat_eq, List, [], ◌∷◌, ◌++◌, length, drop, reverse, codes, All, None, Ok}
 use Rattle.std.specs.List.{slice_split, list_all, before_first, starts_with, flat_map}
+use Rattle.url.specs.Parser.{parse_url}
+use Rattle.uri_form.specs.Fault.{address_in}
 
 -- LF, which ends each line
 abbrev pub line_feed : ℕ
@@ -73,7 +76,12 @@ is_seed line = nat_le (length line) 2083 && starts_with nat_eq line (codes "http
 abbrev pub class_of : List ℕ → List ℕ
 class_of uri = flat_map (λ label. label ++ comma ∷ []) (reverse (labels (host_of uri)))
 
+-- what the line is read as is the line itself
+abbrev pub IsItself : List ℕ → Type 0
+IsItself line = address_in line (parse_url None line) ≡ Ok line
+
 -- the text is these seeds, each ended by LF: cut at LF, it is the seeds and then nothing
 pub record Reads (text : List ℕ) (seeds : List (List ℕ)) : Type 0 where
   pub lines : slice_split (λ b. b == line_feed) text ≡ seeds ++ [] ∷ []
   pub forms : All (λ seed. is_seed seed ≡ true) seeds
+  pub addresses : All IsItself seeds

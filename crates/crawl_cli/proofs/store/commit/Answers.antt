@@ -25,3 +25,6 @@ returns-in-Err-append-clause-any_moment g c settled =
     let step = λ (f : FileId). LeavesOnly of c.fresh.new.volume c.append.new.volume (After f (CountsOneMore [] c.args.block.now) (of.may_leave c.fresh.new.volume)) in
     append_leaves of _ c.args.volume.now c.fresh.new.volume c.args.block.now g.met.V.Volume.counts_now c.append.new.volume (fresh_leaves of _ c.args.volume.now c.fresh.new.volume c.args.block.now settled c.in-Ok.ensures.any_moment)
     (subst step c.in-Ok.ensures.ok.0 (c.in-Err-append.ensures.any_moment [] (c.in-Ok.ensures.ok.1 settled.tells)))
+
+pub returns-in-Ok-append-clause-rests : goal.returns-in-Ok-append-clause-rests
+returns-in-Ok-append-clause-rests g c told = c.in-Ok-append.ensures.ok [] (c.in-Ok.ensures.ok.1 told)

@@ -1,0 +1,67 @@
+// The call that the program makes.
+ghost use Rattle.std.specs.Prelude.{◌≡◌, ◌≤◌, ◌∷◌, List, length, map, true, false, codes, vec_len};
+ghost use Rattle.std.specs.Str.{bytes_eq};
+ghost use Rattle.std.specs.String.{string_bytes};
+ghost use Rattle.crawl_cli.specs.Run.{Crawls, Tends, is_crawl};
+
+use crate::crawl::crawl_command;
+use crate::status::Status;
+use crate::top::tend;
+use crawl_traits::{Clock, Link, Sink, Source, Volume};
+use std::alloc::Global;
+
+/// What a call leaves: how it ended, and the volume, the output and the links that were handed in.
+#[derive(Drop)]
+pub struct Ran<V, W, L> {
+    pub status: Status,
+    pub volume: V,
+    pub out: W,
+    pub links: Vec<L>,
+}
+
+fn is_crawl(word: &String) -> bool
+    ensures { result ≡ bytes_eq (string_bytes word.now) (codes "crawl") }
+{
+    word.as_str() == "crawl"
+}
+
+/// Does what the words say. `crawl` reads seed lines from the source, commits them to the journal as `enqueue` does, and
+/// fetches each item once, in order, over the first link: a whole response is recorded in the first WARC file, the item's
+/// events in the journal, and `CODE URI` is written to the output. All other words are handed to `tend`. It takes 1 to 32
+/// links, and gives them back in order.
+pub fn run<V: Volume, S: Source, W: Sink, L: Link, C: Clock>(
+    alloc: Global,
+    words: &[String],
+    job: &mut S,
+    mut volume: V,
+    mut out: W,
+    mut links: Vec<L>,
+    clock: &C,
+) -> Ran<V, W, L>
+    requires links { (1 ≤ length links.items) × (length links.items ≤ 32) }
+    ensures crawls { is_crawl (map string_bytes words.now) ≡ true → (first : L) (more : List L) → links.items ≡ first ∷ more
+        → (link : L) × (result.links.items ≡ link ∷ more)
+        × Crawls V.Volume S.Source W.Sink (C.gives clock.now) (map string_bytes words.now) job.old job.new volume result.volume out result.out result.status L.Link first link }
+    ensures others { is_crawl (map string_bytes words.now) ≡ false → (result.links.items ≡ links.items)
+        × Tends V.Volume S.Source W.Sink (C.gives clock.now) (map string_bytes words.now) job.old job.new volume result.volume out result.out result.status }
+{
+    if let [word, more @ ..] = words {
+        if is_crawl(word) {
+            let link = &mut links[0];
+            let status = crawl_command(alloc, more, job, &mut volume, &mut out, link, clock);
+            return Ran {
+                status,
+                volume,
+                out,
+                links,
+            };
+        }
+    }
+    let tended = tend(alloc, words, job, volume, out, clock);
+    Ran {
+        status: tended.status,
+        volume: tended.volume,
+        out: tended.out,
+        links,
+    }
+}

@@ -1,0 +1,5 @@
+pub mod Going
+pub mod Lists
+pub mod Preparing
+pub mod Rest
+pub mod Settling

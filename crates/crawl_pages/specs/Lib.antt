@@ -1,0 +1,4 @@
+pub mod Crawl
+pub mod Ends
+pub mod Steps
+pub mod Visits

@@ -1,0 +1,10 @@
+// What is to be written of a visit.
+use gate_log::Frame;
+
+/// What is to be written of a visit: its record, which is empty where nothing is recorded, its block and its line.
+#[derive(Drop)]
+pub(crate) struct Prepared {
+    pub record: Vec<u8>,
+    pub frame: Frame,
+    pub line: Vec<u8>,
+}

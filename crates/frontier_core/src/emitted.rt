@@ -1,0 +1,52 @@
+// An item that is out, and what asking for one answers.
+ghost use Rattle.std.specs.Prelude.{◌≡◌};
+
+use crawl_kinds::{Millis, Work};
+
+/// An item that was handed out. It can't be dropped: it is spent by `Frontier::finish`, or given up.
+pub struct Emitted {
+    pub(crate) work: Work,
+    pub(crate) ticket: u64,
+    pub(crate) caller: u32,
+}
+
+impl Emitted {
+    pub fn work(&self) -> &Work
+        ensures { result.now ≡ self.now.work }
+    {
+        &self.work
+    }
+
+    /// Its number, from 1 on.
+    pub fn ticket(&self) -> u64
+        ensures { result ≡ self.now.ticket }
+    {
+        self.ticket
+    }
+
+    /// The number of the worker that asked for it.
+    pub fn caller(&self) -> u32
+        ensures { result ≡ self.now.caller }
+    {
+        self.caller
+    }
+
+    /// Leaves the item out: no event is made, and it is not handed out again.
+    pub fn give_up(self) {
+        let Emitted {
+            work,
+            ticket: _,
+            caller: _,
+        } = self;
+        drop(work);
+    }
+}
+
+/// What asking for an item answers.
+pub enum Answer {
+    Work(Emitted),
+    /// Nothing waits, but an item is out. `next` is the moment at which one may be ready, in milliseconds, or none.
+    Empty { next: Option<Millis> },
+    /// Nothing waits, and nothing is out.
+    Over,
+}

@@ -1,0 +1,5 @@
+pub mod Counts
+pub mod Heads
+pub mod Joined
+pub mod MediaText
+pub mod Values

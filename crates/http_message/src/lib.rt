@@ -1,0 +1,16 @@
+//! Messages of HTTP/1 (RFC 9112) for one page: the request for an address, and what a response's bytes are.
+#![tactic(auto)]
+
+mod fields;
+mod front;
+mod head;
+mod media;
+mod reading;
+mod request;
+
+pub use front::{Front, Reply, read_front, read_reply};
+pub use head::{Head, HeadFault, read_head};
+pub use request::{Peer, peer_of, request_bytes};
+
+#[cfg(test)]
+mod tests;

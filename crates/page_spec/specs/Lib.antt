@@ -1,0 +1,5 @@
+pub mod Fields
+pub mod Outcome
+pub mod Request
+pub mod Response
+pub mod Worked
