@@ -11,6 +11,7 @@ pub struct Emitted {
 }
 
 impl Emitted {
+    /// The item, and what may be done with it.
     pub fn work(&self) -> &Work
         ensures { result.now ≡ self.now.work }
     {
@@ -31,7 +32,8 @@ impl Emitted {
         self.caller
     }
 
-    /// Leaves the item out: no event is made, and it is not handed out again.
+    /// Leaves the item out: no event is made, and it is not handed out again. It changes nothing, so that no clause
+    /// stands here: the core keeps its events, and counts the item as out.
     pub fn give_up(self) {
         let Emitted {
             work,
