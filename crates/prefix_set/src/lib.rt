@@ -2,5 +2,7 @@
 #![tactic(auto)]
 
 mod set;
+#[cfg(test)]
+mod tests;
 
 pub use set::PrefixSet;

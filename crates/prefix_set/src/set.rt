@@ -1,6 +1,6 @@
 // Prefixes of texts.
 ghost use Rattle.std.specs.Prelude.{◌≡◌, ℕ, List, IfOk};
-ghost use Rattle.prefix_set.specs.Prefixes.{covers};
+ghost use Rattle.prefix_set.specs.Prefixes.{covers, AreApart};
 
 use crawl_kinds::{Copied, NoMemory, Text, TextForm};
 use std::alloc::Global;
@@ -16,6 +16,8 @@ impl<F: TextForm> Model for PrefixSet<F> {
     ghost Value = { List (List ℕ) };
 
     ghost view = { λ a. a.kept.items };
+
+    ghost invariant = { λ a. AreApart a.kept.items };
 }
 
 impl<F: TextForm> PrefixSet<F> {
@@ -27,6 +29,9 @@ impl<F: TextForm> PrefixSet<F> {
         for prefix in prefixes {
             kept.push(prefix.copy()?)?;
         }
+        kept.sort_unstable();
+        // In byte order all that begins with a text comes right after it.
+        kept.dedup_by(|next, last| next.as_bytes().starts_with(last.as_bytes()));
         Ok(PrefixSet { kept })
     }
 
@@ -34,8 +39,12 @@ impl<F: TextForm> PrefixSet<F> {
     pub fn covers(&self, text: &[u8]) -> bool
         ensures { result ≡ covers self.now text.now }
     {
-        self.kept
-            .iter()
-            .any(|prefix| text.starts_with(prefix.as_bytes()))
+        // None begins another, so of those not above the text the greatest alone can be a beginning of it.
+        let kept = self.kept.as_slice();
+        let not_above = kept.partition_point(|prefix| prefix.as_bytes().cmp(&text).is_le());
+        match kept[..not_above].last() {
+            Some(prefix) => text.starts_with(prefix.as_bytes()),
+            None => false,
+        }
     }
 }
