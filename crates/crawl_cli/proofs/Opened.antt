@@ -10,7 +10,7 @@ use Rattle.crawl_traits.specs.declared.file.FileId.TheVariants.{Journal}
 use Rattle.crawl_traits.specs.declared.link.Exchange.{Exchange}
 use Rattle.crawl_traits.specs.declared.link.LinkFault.{LinkFault}
 use Rattle.gate_log.specs.Blocks.{at_rest}
-use Rattle.frontier_core.specs.Core.{Core, waiting, emit_count, last_time}
+use Rattle.visit_core.specs.Core.{Core, waiting, emit_count, last_time}
 use Rattle.seed_lines.specs.Adds.{adds_of}
 use Rattle.seed_lines.specs.Seeds.{Reads}
 use Rattle.crawl_pages.specs.Visits.{bodies}

@@ -9,7 +9,7 @@ ghost use Rattle.crawl_cli.specs.Top.{events_of, time_at};
 
 use crawl_kinds::{Key, Millis, NoMemory, Settings, TextFault, Uri, Uris};
 use event_frames::lines_of;
-use frontier_core::Frontier;
+use visit_core::Frontier;
 use gate_log::Frame;
 use std::alloc::Global;
 

@@ -15,7 +15,7 @@ use Rattle.crawl_traits.specs.declared.link.Exchange.{Exchange}
 use Rattle.crawl_traits.specs.declared.link.LinkFault.{LinkFault}
 use Rattle.crawl_traits.specs.declared.volume.Volume.{Ghosts}
 use Rattle.gate_log.specs.declared.log.GateLog.{GateLog}
-use Rattle.frontier_core.specs.Core.{Core, waiting, emit_count, last_time, added}
+use Rattle.visit_core.specs.Core.{Core, waiting, emit_count, last_time, added}
 use Rattle.crawl_pages.specs.Visits.{Visit, events_of, body, bodies, warc, log, log_line, exchanges}
 use Rattle.crawl_pages.specs.Ends.{World, world, IsVisit, AreVisits}
 use Rattle.crawl_pages.specs.Steps.{IsPage, Prepares}

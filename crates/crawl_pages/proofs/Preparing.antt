@@ -12,9 +12,9 @@ use Rattle.crawl_kinds.specs.declared.item.Work.{Work}
 use Rattle.crawl_kinds.specs.Event.{time_of}
 use Rattle.crawl_traits.specs.declared.link.Exchange.{Exchange}
 use Rattle.journal_spec.specs.Journal.{spelling}
-use Rattle.frontier_core.specs.Core.{Core, with_event, emit_count, last_time, next_time, finish}
-use Rattle.frontier_core.specs.Answers.{HandsOut}
-use Rattle.frontier_core.specs.declared.emitted.Emitted.{Emitted}
+use Rattle.visit_core.specs.Core.{Core, with_event, emit_count, last_time, next_time, finish}
+use Rattle.visit_core.specs.Answers.{HandsOut}
+use Rattle.visit_core.specs.declared.emitted.Emitted.{Emitted}
 use Rattle.crawl_pages.specs.Visits.{Visit, events_of, line_of}
 use Rattle.crawl_pages.specs.Ends.{World, Ends}
 use Rattle.crawl_pages.specs.Steps.{Settles, Prepares}

@@ -10,7 +10,7 @@ use Rattle.crawl_traits.specs.declared.volume.Volume.{Ghosts}
 use Rattle.gate_log.specs.Blocks.{at_rest}
 use Rattle.gate_log.specs.Logs.{IsAtRest}
 use Rattle.gate_log.specs.declared.log.GateLog.{GateLog}
-use Rattle.frontier_core.specs.Core.{Core, waiting, emit_count, last_time}
+use Rattle.visit_core.specs.Core.{Core, waiting, emit_count, last_time}
 use Rattle.crawl_pages.specs.Visits.{Visit, bodies, warc, log, exchanges}
 use Rattle.crawl_pages.specs.Ends.{World, AreVisits}
 

@@ -12,7 +12,7 @@ use Rattle.record_spec.specs.Base32.{digest_text}
 use Rattle.record_spec.specs.Record.{IsResponseRecord}
 use Rattle.record_spec.specs.declared.naming.Naming.{Naming}
 use Rattle.crawl_traits.specs.declared.link.Exchange.{Exchange}
-use Rattle.frontier_core.specs.Core.{Core, waiting, emit_count, last_time}
+use Rattle.visit_core.specs.Core.{Core, waiting, emit_count, last_time}
 use Rattle.page_spec.specs.Request.{scheme_in}
 use Rattle.crawl_pages.specs.Visits.{Visit, events_of, body, line_of, log_line}
 use Rattle.crawl_pages.specs.Ends.{World, Ends, IsVisit, failed, recorded}

@@ -1,7 +1,7 @@
 // One visit: the next item is handed out, fetched and brought to its end, and what is to be written of it made ready.
 ghost use Rattle.std.specs.Prelude.{◌≡◌, ◌≤◌, ◌<◌, All, IfOk, OnOk, OnErr, None, length};
 ghost use Rattle.crawl_traits.specs.declared.link.LinkFault.{LinkFault as Fault};
-ghost use Rattle.frontier_core.specs.Core.{waiting, with_event, finish as close};
+ghost use Rattle.visit_core.specs.Core.{waiting, with_event, finish as close};
 ghost use Rattle.crawl_pages.specs.Ends.{world};
 ghost use Rattle.crawl_pages.specs.Steps.{IsPage, Prepares};
 
@@ -10,7 +10,7 @@ use crate::settle::settle;
 use crawl_kinds::{End, Millis, NoMemory};
 use crawl_traits::{Clock, Link};
 use event_frames::finish_frame;
-use frontier_core::{Answer, Emitted, Frontier};
+use visit_core::{Answer, Emitted, Frontier};
 use std::alloc::Global;
 
 /// Brings an item to its end.

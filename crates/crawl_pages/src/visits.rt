@@ -2,7 +2,7 @@
 ghost use Rattle.std.specs.Prelude.{◌≡◌, ◌≤◌, ◌++◌, ℕ, List, All, IsTrue, OnOk, OnErr, Err, None, length};
 ghost use Rattle.crawl_traits.specs.Causes.{Rose};
 ghost use Rattle.crawl_traits.specs.declared.link.LinkFault.{LinkFault as Fault};
-ghost use Rattle.frontier_core.specs.Core.{waiting};
+ghost use Rattle.visit_core.specs.Core.{waiting};
 ghost use Rattle.gate_log.specs.Logs.{file_of};
 ghost use Rattle.crawl_pages.specs.Crawl.{Crawled, Rests, journal};
 ghost use Rattle.crawl_pages.specs.Ends.{world};
@@ -14,7 +14,7 @@ use crate::settle::length_of;
 use crate::why::Why;
 use crawl_kinds::NoMemory;
 use crawl_traits::{Clock, Failed, Link, Sink, Volume, cut_synced};
-use frontier_core::Frontier;
+use visit_core::Frontier;
 use gate_log::GateLog;
 use std::alloc::Global;
 

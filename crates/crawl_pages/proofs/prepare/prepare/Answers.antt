@@ -8,9 +8,9 @@ use Rattle.crawl_kinds.specs.declared.item.Item.{Item}
 use Rattle.crawl_kinds.specs.declared.item.Work.{Work}
 use Rattle.crawl_kinds.specs.declared.settings.Settings.{Settings}
 use Rattle.journal_spec.specs.Journal.{spelling}
-use Rattle.frontier_core.specs.Core.{Core, waiting}
-use Rattle.frontier_core.specs.Answers.{Answers, HandsOut}
-use Rattle.frontier_core.specs.declared.emitted.Answer.{Answer}
+use Rattle.visit_core.specs.Core.{Core, waiting}
+use Rattle.visit_core.specs.Answers.{Answers, HandsOut}
+use Rattle.visit_core.specs.declared.emitted.Answer.{Answer}
 use Rattle.crawl_pages.specs.Ends.{world}
 use Rattle.crawl_pages.specs.Steps.{IsPage, Settles}
 use Rattle.crawl_pages.proofs.Preparing.{prepares}

@@ -1,10 +1,10 @@
 -- What `emit` answers.
 use Rattle.std.specs.Prelude.{◌≡◌, ◌≢◌, ℕ, ◌+◌, List, [], ◌∷◌, None}
 use Rattle.crawl_kinds.specs.declared.item.Item.{Item}
-use Rattle.frontier_core.specs.declared.emitted.Emitted.{Emitted}
-use Rattle.frontier_core.specs.declared.emitted.Answer.{Answer}
-use Rattle.frontier_core.specs.declared.emitted.Answer.TheVariants.{Work, Empty, Over}
-use Rattle.frontier_core.specs.Core.{Core, waiting, with_event, emit, work, emit_count, finish_count}
+use Rattle.visit_core.specs.declared.emitted.Emitted.{Emitted}
+use Rattle.visit_core.specs.declared.emitted.Answer.{Answer}
+use Rattle.visit_core.specs.declared.emitted.Answer.TheVariants.{Work, Empty, Over}
+use Rattle.visit_core.specs.Core.{Core, waiting, with_event, emit, work, emit_count, finish_count}
 
 -- the first item that waits was handed out, under the next ticket, and its Emit is the next event
 pub record HandsOut (old new : Core) (caller now : ℕ) (emitted : Emitted) : Type 0 where

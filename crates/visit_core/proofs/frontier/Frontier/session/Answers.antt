@@ -1,9 +1,9 @@
 use Rattle.std.proofs.Common.{◌≡◌, ◌∙◌, sym, ap, min, max, [], ◌∷◌, ◌++◌}
 use Rattle.crawl_kinds.specs.declared.event.Event.{Event}
 use Rattle.crawl_kinds.specs.declared.event.Event.TheVariants.{Session}
-use Rattle.frontier_core.specs.Core.{Core, next_time, last_time}
-use Rattle.frontier_core.proofs.Scans.{session_kept}
-use Rattle.frontier_core.proofs.frontier.Frontier.session.Goals as goal
+use Rattle.visit_core.specs.Core.{Core, next_time, last_time}
+use Rattle.visit_core.proofs.Scans.{session_kept}
+use Rattle.visit_core.proofs.frontier.Frontier.session.Goals as goal
 
 pub invariant_of-self-2 : goal.invariant_of-self-2
 invariant_of-self-2 c =

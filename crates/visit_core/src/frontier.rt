@@ -1,7 +1,7 @@
 // The state machine.
 ghost use Rattle.std.specs.Prelude.{◌≡◌, ◌≤◌, ◌<◌, ◌^◌, ℕ, List, [], All, true, IfOk, OnErr, length};
-ghost use Rattle.frontier_core.specs.Core as core;
-ghost use Rattle.frontier_core.specs.Answers.{Answers};
+ghost use Rattle.visit_core.specs.Core as core;
+ghost use Rattle.visit_core.specs.Answers.{Answers};
 ghost use Rattle.seed_lines.specs.Seeds.{is_seed};
 ghost use Rattle.seed_lines.specs.Adds as seeds;
 
@@ -27,7 +27,7 @@ pub struct Frontier {
 
 impl Model for Frontier {
     ghost use Rattle.std.specs.Prelude.{◌≡◌, ◌≤◌, length};
-    ghost use Rattle.frontier_core.specs.Core.{Core, added, emit_count, last_time};
+    ghost use Rattle.visit_core.specs.Core.{Core, added, emit_count, last_time};
 
     ghost Value = { Core };
 

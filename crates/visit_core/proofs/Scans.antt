@@ -13,8 +13,8 @@ use Rattle.crawl_kinds.specs.declared.event.Verdict.TheVariants.{Allowed}
 use Rattle.crawl_kinds.specs.declared.item.Item.{Item}
 use Rattle.crawl_kinds.specs.declared.settings.Settings.{Settings}
 use Rattle.crawl_kinds.specs.Event.{time_of, adds_of, emit_of, Emission}
-use Rattle.frontier_core.specs.Core.{Core, added, emit_count, last_time, next_time}
-use Rattle.frontier_core.specs.Answers.{HandsOut}
+use Rattle.visit_core.specs.Core.{Core, added, emit_count, last_time, next_time}
+use Rattle.visit_core.specs.Answers.{HandsOut}
 
 abbrev pub Kept : List Event → List Item → ℕ → ℕ → Type 0
 Kept es items emits time = (items ≡ added es) × (emits ≡ emit_count es) × (time ≡ last_time es) × (emits ≤ length items)

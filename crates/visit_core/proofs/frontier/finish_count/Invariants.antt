@@ -1,6 +1,6 @@
 use Rattle.std.proofs.Common.{◌≡◌, ◌≤◌, take}
-use Rattle.frontier_core.specs.Core.{finish_count}
-use Rattle.frontier_core.proofs.frontier.finish_count.Given as goal
+use Rattle.visit_core.specs.Core.{finish_count}
+use Rattle.visit_core.proofs.frontier.finish_count.Given as goal
 
 abbrev pub invariant-loop-event : goal.invariant-loop-event
 invariant-loop-event l = record {

@@ -2,9 +2,9 @@ use Rattle.std.proofs.Common.{◌≡◌, ◌∙◌, sym, ap, min, max, List, [],
 use Rattle.crawl_kinds.specs.declared.event.Event.{Event}
 use Rattle.crawl_kinds.specs.declared.event.Event.TheVariants.{Finish}
 use Rattle.crawl_kinds.specs.declared.item.Item.{Item}
-use Rattle.frontier_core.specs.Core.{Core, next_time, last_time}
-use Rattle.frontier_core.proofs.Scans.{finish_kept}
-use Rattle.frontier_core.proofs.frontier.Frontier.finish.Goals as goal
+use Rattle.visit_core.specs.Core.{Core, next_time, last_time}
+use Rattle.visit_core.proofs.Scans.{finish_kept}
+use Rattle.visit_core.proofs.frontier.Frontier.finish.Goals as goal
 
 pub invariant_of-self-2 : goal.invariant_of-self-2
 invariant_of-self-2 c =

@@ -2,9 +2,9 @@ use Rattle.std.proofs.Common.{◌≡◌, ◌∙◌, sym, ap, min, max, List, [],
 use Rattle.crawl_kinds.specs.declared.event.Event.{Event}
 use Rattle.crawl_kinds.specs.declared.event.Event.TheVariants.{Seeds}
 use Rattle.crawl_kinds.specs.declared.item.Item.{Item}
-use Rattle.frontier_core.specs.Core.{Core, next_time, last_time, added}
-use Rattle.frontier_core.proofs.Scans.{seeds_kept}
-use Rattle.frontier_core.proofs.frontier.Frontier.seeds.Goals as goal
+use Rattle.visit_core.specs.Core.{Core, next_time, last_time, added}
+use Rattle.visit_core.proofs.Scans.{seeds_kept}
+use Rattle.visit_core.proofs.frontier.Frontier.seeds.Goals as goal
 
 pub invariant_of-self-2 : goal.invariant_of-self-2
 invariant_of-self-2 c =

@@ -2,10 +2,10 @@ use Rattle.std.proofs.Common.{◌≡◌, ◌∙◌, sym, ap, subst, ◌+◌, min
 use Rattle.crawl_kinds.specs.declared.event.Event.TheVariants.{Emit}
 use Rattle.crawl_kinds.specs.declared.event.Verdict.TheVariants.{Allowed}
 use Rattle.crawl_kinds.specs.declared.item.Item.{Item}
-use Rattle.frontier_core.specs.Core.{Core, next_time, last_time}
-use Rattle.frontier_core.specs.Answers.{HandsOut}
-use Rattle.frontier_core.proofs.Scans.{emit_kept, hands_out}
-use Rattle.frontier_core.proofs.frontier.Frontier.emit.Goals as goal
+use Rattle.visit_core.specs.Core.{Core, next_time, last_time}
+use Rattle.visit_core.specs.Answers.{HandsOut}
+use Rattle.visit_core.proofs.Scans.{emit_kept, hands_out}
+use Rattle.visit_core.proofs.frontier.Frontier.emit.Goals as goal
 
 pub invariant_of-self-2 : goal.invariant_of-self-2
 invariant_of-self-2 c =
