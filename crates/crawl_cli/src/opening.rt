@@ -9,9 +9,9 @@ ghost use Rattle.crawl_cli.specs.Top.{events_of, time_at};
 
 use crawl_kinds::{Key, Millis, NoMemory, Settings, TextFault, Uri, Uris};
 use event_frames::lines_of;
-use visit_core::Frontier;
 use gate_log::Frame;
 use std::alloc::Global;
+use visit_core::Frontier;
 
 /// The name that stands for the job until there is one.
 pub fn no_job(alloc: Global) -> Result<Key, NoMemory>

@@ -3,7 +3,7 @@ use crate::laws::examples_hold;
 use crate::status::{JobFault, Status};
 use crate::top::{Tended, tend};
 use crawl_memory::{MemClock, MemSink, MemSource, MemVolume};
-use crawl_traits::FileId;
+use crawl_traits::{FileId, StoreFault, Volume};
 use gate_log::{GateLog, read_log};
 use std::alloc::Global;
 use std::process::Abort;
@@ -219,5 +219,44 @@ fn a_log_is_opened_again(rt: HostRuntime) -> Result<(), Fail> {
         "unopened",
     ))?;
     assert_eq!(rt; blocks.as_slice().len(), 1);
+    Ok(())
+}
+
+/// How reading a log of these bytes ends: how many blocks it counts, or the gate at which it is damaged.
+fn read(alloc: Global, bytes: &[u8]) -> Result<Result<usize, u64>, Fail> {
+    let mut volume = MemVolume::new(alloc);
+    volume.write_at(FileId::Journal(0), 0, bytes)?;
+    match read_log(alloc, &mut volume, FileId::Journal(0)) {
+        Ok(blocks) => Ok(Ok(blocks.as_slice().len())),
+        Err(StoreFault::Damaged { at, .. }) => Ok(Err(at)),
+        Err(_) => Err(Fail::from("neither")),
+    }
+}
+
+#[test]
+fn a_log_is_read_or_damaged_at_a_gate(rt: HostRuntime) -> Result<(), Fail> {
+    let alloc = rt.alloc();
+    let read_so: [(&[u8], usize); 6] = [
+        (b"", 0),
+        (b"+", 0),
+        (b"-+00000001\nx-", 0),
+        (b"+00000001\nx-", 1),
+        (b"+00000001\nx+00000002\nyz-", 2),
+        (b"+00000001\nx-behind", 1),
+    ];
+    for (bytes, count) in read_so {
+        assert_eq!(rt; read(alloc, bytes)?, Ok(count));
+    }
+    let damaged_at: [(&[u8], u64); 6] = [
+        (b"+0000000A\n0123456789-", 0),
+        (b"+00000000\n-", 0),
+        (b"+00000010\nS+", 0),
+        (b"+00000001\nx", 0),
+        (b"+00000001 x-", 0),
+        (b"+00000001\nx+00000002\ny-", 11),
+    ];
+    for (bytes, at) in damaged_at {
+        assert_eq!(rt; read(alloc, bytes)?, Err(at));
+    }
     Ok(())
 }
