@@ -1,7 +1,7 @@
 // The seeds and prefixes of a job's text.
-ghost use Rattle.std.specs.Prelude.{◌≡◌, ◌≢◌, ◌≤◌, ◌+◌, ◌∷◌, ◌++◌, [], ℕ, List, true, Err, length, count_by, IfOk, OnOk};
+ghost use Rattle.std.specs.Prelude.{◌≡◌, ◌≢◌, ◌≤◌, ◌∷◌, ◌++◌, [], ℕ, List, true, Err, length, count_by, IfOk, OnOk};
 ghost use Rattle.seed_list.specs.Bad.{IsBadLine, IsRefused};
-ghost use Rattle.seed_list.specs.Lines.{is_prefix_line, is_seed_line, lines, plus_sign};
+ghost use Rattle.seed_list.specs.Lines.{is_seed_line, lines, plus_sign};
 ghost use Rattle.seed_list.specs.Listing.{IsListOf};
 
 use crate::fault::{LineFault, SeedFault};

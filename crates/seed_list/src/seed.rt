@@ -1,7 +1,6 @@
 // The seed and the prefix of one line.
-ghost use Rattle.std.specs.Prelude.{◌≡◌, true, drop, IfOk};
+ghost use Rattle.std.specs.Prelude.{◌≡◌, IfOk};
 ghost use Rattle.crawl_kinds.specs.Address.{IsUri};
-ghost use Rattle.seed_list.specs.Lines.{is_prefix_line};
 ghost use Rattle.seed_list.specs.Reading.{Answers};
 ghost use Rattle.seed_list.specs.Seeds.{prefix_behind, prefix_of_seed, seed_of, surt_of};
 
