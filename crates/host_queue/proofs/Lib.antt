@@ -1,0 +1,4 @@
+pub mod Members
+pub mod Order
+pub mod Ranks
+pub mod Sound
