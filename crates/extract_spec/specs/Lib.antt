@@ -1,0 +1,4 @@
+pub mod Source
+pub mod Joining
+pub mod Links
+pub mod Worked
