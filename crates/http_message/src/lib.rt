@@ -4,12 +4,17 @@
 mod fields;
 mod front;
 mod head;
+mod head_fields;
 mod media;
 mod reading;
 mod request;
 
 pub use front::{Front, Reply, read_front, read_reply};
 pub use head::{Head, HeadFault, read_head};
+pub use head_fields::{
+    FieldValues, HeadField, HeadFields, WholeHead, field_values, media_type, read_fields,
+};
+pub use media::trim;
 pub use request::{Peer, peer_of, request_bytes};
 
 #[cfg(test)]

@@ -39,8 +39,8 @@ fn after(bytes: &[u8], stop: u8) -> &[u8]
     }
 }
 
-/// The bytes without spaces and tabs at both ends.
-fn trim(bytes: &[u8]) -> &[u8]
+/// The bytes without spaces and tabs at both ends (RFC 9110 section 5.6.3).
+pub fn trim(bytes: &[u8]) -> &[u8]
     ensures { result.now ≡ trim_ows bytes.now }
 {
     let mut start = 0;

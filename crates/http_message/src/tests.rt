@@ -1,6 +1,7 @@
 // Fronts of responses and media types whose answers are known.
 use crate::front::{Front, read_front};
 use crate::head::{HeadFault, read_head};
+use crate::head_fields::{field_values, media_type, read_fields};
 use crate::media::media_in;
 use crawl_kinds::Media;
 use std::alloc::Global;
@@ -76,5 +77,25 @@ fn media_types(rt: HostRuntime) -> Result<(), Fail> {
     assert_eq!(rt; media(alloc, "text")?.as_str(), "unknown");
     assert_eq!(rt; media(alloc, "a/b/c")?.as_str(), "unknown");
     assert_eq!(rt; media(alloc, "")?.as_str(), "unknown");
+    Ok(())
+}
+
+#[test]
+fn fields_of_heads(rt: HostRuntime) -> Result<(), Fail> {
+    let alloc = rt.alloc();
+    let block =
+        b"HTTP/1.1 301 Moved\r\nLocation: \t/a \r\ncontent-type: Text/CSS;x\r\nLOCATION:\r\n\r\nbody";
+    let head = read_fields(alloc, block)?.ok_or("no head")?;
+    assert_eq!(rt; head.status, 301);
+    assert_eq!(rt; head.len, block.len() - 4);
+    assert_eq!(rt; head.fields.as_slice().len(), 3);
+    assert_eq!(rt; media_type(alloc, &head.fields)?.as_str(), "text/css");
+    let targets = field_values(alloc, &head.fields, b"location")?;
+    assert_eq!(rt; targets.as_slice().len(), 2);
+    assert_eq!(rt; targets.as_slice()[0].as_slice(), b"/a".as_slice());
+    assert!(rt; targets.as_slice()[1].as_slice().is_empty());
+    assert!(rt; read_fields(alloc, b"HTTP/1.1 301 Moved\r\nA: b\r\n")?.is_none());
+    let none = read_fields(alloc, b"HTTP/1.1 200 OK\r\n\r\n")?.ok_or("no head")?;
+    assert_eq!(rt; media_type(alloc, &none.fields)?.as_str(), "no-type");
     Ok(())
 }
