@@ -1,6 +1,6 @@
 -- How the body of a response is read for links, by the fields of its head.
 --     source_of fields      as a page, as a style sheet, as a script, or not at all
-use Rattle.std.specs.Prelude.{ℕ, Bool, ◌||◌, ◌==◌, nat_lt, if◌then◌else◌, List, length, codes, bytes_eq, filter, map}
+use Rattle.std.specs.Prelude.{ℕ, Bool, ◌||◌, ◌==◌, nat_lt, if◌then◌else◌, List, length, codes, bytes_eq, not}
 use Rattle.std.specs.List.{list_all, slice_split}
 use Rattle.std.specs.Str.{str_eq_ignore_ascii_case}
 use Rattle.httparse.specs.Grammar.{trim_ows}
@@ -16,17 +16,14 @@ has_bytes text = nat_lt 0 (length text)
 abbrev pub is_comma : ℕ → Bool
 is_comma b = b == 44
 
--- what stands between commas, without blanks round it; empty parts do not count (RFC 9110 section 5.6.1)
-abbrev pub parts_of : List ℕ → List (List ℕ)
-parts_of value = filter has_bytes (map trim_ows (slice_split is_comma value))
+-- a coding that changes nothing is `identity`, in whatever case (RFC 9110 section 8.4.1); empty elements of a list do not
+-- count (section 5.6.1)
+abbrev pub is_plain_coding : List ℕ → Bool
+is_plain_coding coding = not (has_bytes coding) || str_eq_ignore_ascii_case coding (codes "identity")
 
--- the coding that changes nothing, in whatever case (RFC 9110 section 8.4.1)
-abbrev pub is_identity : List ℕ → Bool
-is_identity coding = str_eq_ignore_ascii_case coding (codes "identity")
-
--- each coding that a value of a Content-Encoding field names is `identity` (RFC 9110 section 8.4)
+-- each coding that a value of a Content-Encoding field names changes nothing (RFC 9110 section 8.4)
 abbrev pub is_plain : List ℕ → Bool
-is_plain value = list_all is_identity (parts_of value)
+is_plain value = list_all (λ part. is_plain_coding (trim_ows part)) (slice_split is_comma value)
 
 -- and so of each such field
 abbrev pub is_unencoded : List Pair → Bool
