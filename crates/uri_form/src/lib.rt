@@ -1,6 +1,7 @@
 //! Addresses: how they are read and joined, their SURT forms, classes, canonical keys and seed prefixes.
 #![tactic(auto)]
 
+mod base;
 mod cut;
 mod fault;
 mod ids;
@@ -12,6 +13,7 @@ mod robots;
 mod seed;
 mod surt_form;
 
+pub use base::Base;
 pub use fault::UriFault;
 pub use key_form::canonical_key;
 pub use laws::{

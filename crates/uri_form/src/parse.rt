@@ -11,7 +11,7 @@ use std::alloc::Global;
 use url::{Position, Url};
 
 /// The most bytes of a text that is read.
-const MOST_TEXT: usize = 65536;
+pub(crate) const MOST_TEXT: usize = 65536;
 
 /// The most bytes of an address.
 const MOST_URI: usize = 2083;
@@ -28,7 +28,7 @@ fn is_web(url: &Url) -> bool
 }
 
 /// The address that a URL is, without its fragment.
-fn address_of(alloc: Global, url: &Url) -> Result<Uri, UriFault>
+pub(crate) fn address_of(alloc: Global, url: &Url) -> Result<Uri, UriFault>
     ensures answer { Answers result (address_of url.now) }
     ensures address { IfOk result IsUri }
 {

@@ -15,6 +15,13 @@ fn joined(alloc: Global, text: &str) -> Result<String, Fail> {
     Ok(String::from_str(alloc, uri.as_str())?)
 }
 
+fn joined_again(alloc: Global, text: &str) -> Result<String, Fail> {
+    let uri = parse_uri(alloc, "http://a.test/d/p")?;
+    let base = Base::of(alloc, &uri)?;
+    let uri = base.join(alloc, text)?;
+    Ok(String::from_str(alloc, uri.as_str())?)
+}
+
 fn join_fault(alloc: Global, text: &str) -> Result<Option<UriFault>, Fail> {
     let base = parse_uri(alloc, "http://a.test/d/p")?;
     Ok(join_uri(alloc, &base, text).err())
@@ -123,6 +130,7 @@ fn texts_are_joined_to_their_base(rt: HostRuntime) -> Result<(), Fail> {
     ];
     for (text, wanted) in &rows {
         assert_eq!(rt; joined(alloc, text)?.as_str(), *wanted);
+        assert_eq!(rt; joined_again(alloc, text)?.as_str(), *wanted);
     }
     Ok(())
 }
