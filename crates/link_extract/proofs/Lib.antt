@@ -1,0 +1,4 @@
+pub mod Blanks
+pub mod Growing
+pub mod Letters
+pub mod Responses
