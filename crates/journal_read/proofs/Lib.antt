@@ -1,6 +1,8 @@
 pub mod Answers
+pub mod BadLines
 pub mod Bodies
 pub mod Cells
+pub mod Chains
 pub mod Codes
 pub mod EventLaws
 pub mod Fetches
@@ -8,8 +10,13 @@ pub mod Grammar
 pub mod LineLaws
 pub mod Noted
 pub mod Numbers
+pub mod Progress
 pub mod Redirects
 pub mod Remarks
 pub mod Same
+pub mod Spelled
+pub mod Suited
+pub mod Tagged
+pub mod Taken
 pub mod Texts
 pub mod Visible

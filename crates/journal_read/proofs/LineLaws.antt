@@ -169,10 +169,10 @@ text_cells l rest is =
     ap (cells 10) (append_assoc (join_with_byte 32 (fields_of l)) (10 ∷ []) rest)
     ∙ slice_split_at (λ b. eqb b 10) (join_with_byte 32 (fields_of l)) 10 rest (free_joined (fields_of l) (fields_visible l is)) refl
 
-uncut : (a b : List ℕ) → cells 10 a ≡ cells 10 b → a ≡ b
+pub uncut : (a b : List ℕ) → cells 10 a ≡ cells 10 b → a ≡ b
 uncut a b e = sym (join_with_byte-slice_split 10 a) ∙ (ap (join_with_byte 10) e ∙ join_with_byte-slice_split 10 b)
 
-no_line : (m : Line) (rest : List ℕ) → [] ≡ text_of m ++ rest → ⊥
+pub no_line : (m : Line) (rest : List ℕ) → [] ≡ text_of m ++ rest → ⊥
 no_line m rest e =
     omega (arith, ap length e, length-append (text_of m) rest, length-append (join_with_byte 32 (fields_of m)) (10 ∷ []))
 

@@ -27,3 +27,11 @@ impl From<AllocError> for Misread {
         Misread::NoMemory
     }
 }
+
+/// Why a text is no list of events.
+#[derive(Clone, Copy, Debug, PartialEq, Eq)]
+pub enum LineFault {
+    /// The lines before this one, counted from 1, are those of valid events, and with this one they are not.
+    BadLine { line: u32 },
+    NoMemory,
+}

@@ -3,14 +3,24 @@
 #![tactic(auto)]
 
 mod body;
+mod end;
 mod fault;
 mod fetch;
+mod fields;
 mod item;
+mod joining;
 mod laws;
 mod line;
 mod notes;
 mod number;
 mod parts;
+mod read_line;
+mod reader;
 mod text;
 
-pub use laws::one_text_one_list;
+pub use fault::LineFault;
+pub use laws::{one_bad_line, one_text_one_list};
+pub use reader::read_events;
+
+#[cfg(test)]
+mod tests;

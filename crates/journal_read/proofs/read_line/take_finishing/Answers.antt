@@ -1,0 +1,22 @@
+use Rattle.std.proofs.lemmas.Result.{err_from_is_err_and}
+use Rattle.journal_read.specs.Reading.{left}
+use Rattle.journal_read.proofs.Tagged.{finishing_no_item, finishing_no_ticket, finishing_no_end}
+use Rattle.journal_read.proofs.read_line.take_finishing.Goals as goal
+
+pub returns-in_err-item : goal.returns-in_err-item
+returns-in_err-item c =
+    let p = err_from_is_err_and c.from_residual.result c.from_residual.ensures.1 in
+    let new = left c.take_item.new.parts in
+    rw (p.1, p.2) (finishing_no_item c.args.outcome (left c.args.parts.now) new new c.in_err-item.field-0.0 c.in_err-item.ensures)
+
+pub returns-in_err-ticket : goal.returns-in_err-ticket
+returns-in_err-ticket c =
+    let p = err_from_is_err_and c.from_residual-in_err-ticket.result c.from_residual-in_err-ticket.ensures.1 in
+    let new = left c.take_ticket.new.parts in
+    rw (p.1, p.2) (finishing_no_ticket c.args.outcome (left c.args.parts.now) (left c.take_item.new.parts) new new c.in_ok-item.item c.in_err-ticket.field-0.0 c.in_ok-item.ensures.1 c.in_err-ticket.ensures)
+
+pub returns-in_err-end : goal.returns-in_err-end
+returns-in_err-end c =
+    let p = err_from_is_err_and c.from_residual-in_err-end.result c.from_residual-in_err-end.ensures.1 in
+    let new = left c.take_end.new.parts in
+    rw (p.1, p.2) (finishing_no_end c.args.outcome (left c.args.parts.now) (left c.take_item.new.parts) (left c.take_ticket.new.parts) new new c.in_ok-item.item c.in_ok-ticket.ticket c.in_err-end.field-0.0 c.in_ok-item.ensures.1 c.in_ok-ticket.ensures.1 c.in_err-end.ensures)
