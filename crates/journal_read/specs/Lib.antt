@@ -3,4 +3,5 @@ pub mod Faults
 pub mod Items
 pub mod Joining
 pub mod Lines
+pub mod Page
 pub mod Reading

@@ -1,17 +1,16 @@
 // Items: what follows from an address and a path.
-ghost use Rattle.std.specs.Prelude.{◌≡◌, ℕ, ◌++◌, ◌≤◌, ◌<◌, Option, IfOk, IsTrue, IfSome, decimal, length, string_bytes};
-ghost use Rattle.crawl_kinds.specs.Address.{IsUri};
+ghost use Rattle.std.specs.Prelude.{◌≡◌, ◌≤◌, ◌<◌, IfOk, IsTrue, IfSome, length, string_bytes};
 ghost use Rattle.crawl_kinds.specs.Text.{is_text, is_visible, is_hop};
-ghost use Rattle.uri_spec.specs.Key.{key_text, robots_key};
-ghost use Rattle.uri_spec.specs.Surt.{class_text};
-ghost use Rattle.journal_valid.specs.Items.{IsAddress, IsItem, key_by, key_of, rank_of, robots_redirects};
+ghost use Rattle.uri_spec.specs.Key.{robots_key};
+ghost use Rattle.uri_form.specs.Named.{IsNamed};
+ghost use Rattle.journal_valid.specs.Items.{IsAddress, rank_of, robots_redirects};
 ghost use Rattle.journal_read.specs.Reading.{Reads};
-ghost use Rattle.journal_read.specs.Items.{IsItemOf, redirects_after};
+ghost use Rattle.journal_read.specs.Items.{IsItemOf, key_from, redirects_after};
 
 use crate::fault::Misread;
 use crawl_kinds::{ClassKey, HopPath, Item, Key, NoMemory, Text, TextFault, Uri};
 use std::alloc::Global;
-use uri_form::{canonical_key, class_key};
+use uri_form::Named;
 
 /// How often a robots file was redirected, with one letter more.
 fn redirects_after(letter: u8, before: Option<u32>) -> Option<u32>
@@ -63,19 +62,12 @@ fn robots_text(alloc: Global, redirects: u32, class: &str) -> Result<String, NoM
     Ok(format!(in alloc; "robots{redirects}:{class}")?)
 }
 
-/// The key of an address, by its class.
-fn key_of(
-    alloc: Global,
-    uri: &Uri,
-    class: &ClassKey,
-    redirects: Option<u32>,
-) -> Result<Key, Misread>
-    requires uri { IsUri uri.now }
-    requires class { class.now ≡ class_text uri.now }
-    ensures { Reads (λ key. (key ≡ key_by redirects uri.now) × IsTrue (is_text is_visible 2200 key)) result }
+/// The key of an address that was found on a path.
+fn key_of(alloc: Global, key: Key, class: &ClassKey, redirects: Option<u32>) -> Result<Key, Misread>
+    ensures { Reads (λ own. (own ≡ key_from redirects key class.now) × IsTrue (is_text is_visible 2200 own)) result }
 {
     let Some(redirects) = redirects else {
-        return Ok(canonical_key(alloc, uri)?);
+        return Ok(key);
     };
     let text = robots_text(alloc, redirects, class.as_str())?;
     match Text::new(alloc, text.as_str()) {
@@ -86,14 +78,20 @@ fn key_of(
 }
 
 /// The item of an address that was found on a path, on the page `via`.
-pub fn item_of(alloc: Global, uri: Uri, path: HopPath, via: Option<Uri>) -> Result<Item, Misread>
-    requires uri { IsAddress uri }
+pub fn item_of(
+    alloc: Global,
+    named: Named,
+    path: HopPath,
+    via: Option<Uri>,
+) -> Result<Item, Misread>
+    requires uri { IsAddress named.uri }
+    requires named { IsNamed named.uri named }
     requires path { IsTrue (is_text is_hop 250 path) }
     requires via { IfSome via IsAddress }
-    ensures { Reads (λ item. IsItemOf uri path via item) result }
+    ensures { Reads (λ item. IsItemOf named.uri path via item) result }
 {
-    let class = class_key(alloc, &uri)?;
-    let key = key_of(alloc, &uri, &class, robots_redirects(path.as_bytes()))?;
+    let Named { uri, key, class } = named;
+    let key = key_of(alloc, key, &class, robots_redirects(path.as_bytes()))?;
     let rank = rank_of(key.as_bytes(), path.as_bytes());
     Ok(Item {
         key,

@@ -1,8 +1,5 @@
 // How a line joins the events of the lines before it.
-ghost use Rattle.std.specs.Prelude.{◌≡◌, ◌∷◌, ◌++◌, [], IfSome, OnOk};
-ghost use Rattle.std.specs.List.{AllByRecursion};
-ghost use Rattle.journal_valid.specs.Items.{IsAddress};
-ghost use Rattle.journal_valid.specs.Valid.{IsEvent};
+ghost use Rattle.std.specs.Prelude.{◌≡◌, ◌∷◌, ◌++◌, [], OnOk};
 ghost use Rattle.journal_read.specs.Joining.{Grows, Joins, may_add, may_seed};
 ghost use Rattle.journal_read.specs.declared.line.Line.TheVariants.{Add, Seed};
 
@@ -114,15 +111,4 @@ pub fn join(alloc: Global, events: &mut Vec<Event>, line: Line) -> Result<(), Mi
         },
     };
     Ok(begin(events, event)?)
-}
-
-/// The address of the page whose end the last event is.
-pub fn page_of(events: &[Event]) -> Option<&Uri>
-    requires { AllByRecursion IsEvent events.now }
-    ensures { IfSome result (λ uri. IsAddress uri.now) }
-{
-    match events.last() {
-        Some(Event::Finish { item, .. }) => Some(&item.uri),
-        _ => None,
-    }
 }

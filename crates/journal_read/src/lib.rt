@@ -13,6 +13,7 @@ mod laws;
 mod line;
 mod notes;
 mod number;
+mod page;
 mod parts;
 mod read_line;
 mod reader;

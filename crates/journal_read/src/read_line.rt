@@ -7,6 +7,7 @@ ghost use Rattle.journal_valid.specs.Ends.{IsEnd};
 ghost use Rattle.journal_valid.specs.Items.{IsAdd, IsAddress, IsItem};
 ghost use Rattle.journal_valid.specs.Valid.{IsSession, IsTicket};
 ghost use Rattle.journal_read.specs.Lines.{IsLineOf, IsTagged, rest_of};
+ghost use Rattle.journal_read.specs.Page.{IsPage};
 ghost use Rattle.journal_read.specs.Reading.{Takes, Reads, left};
 
 use crate::end::{tagged_outcome, take_end};
@@ -15,6 +16,7 @@ use crate::fields::{Ticket, take_item, take_ticket, take_time, verdict_of};
 use crate::item::robots_redirects;
 use crate::line::Line;
 use crate::number::number_of;
+use crate::page::Page;
 use crate::parts::Parts;
 use crate::text::{address_of, text_of};
 use crawl_kinds::{End, Item, Key, KeyForm, Millis, Outcome, Uri, Verdict};
@@ -90,8 +92,8 @@ fn seed_line(alloc: Global, parts: &mut Parts) -> Result<Line, Misread>
 }
 
 /// Takes an item that may be added: a robots file is redirected at most five times.
-fn take_add(alloc: Global, page: Option<&Uri>, parts: &mut Parts) -> Result<Item, Misread>
-    requires { IfSome page (λ uri. IsAddress uri.now) }
+fn take_add(alloc: Global, page: Option<&Page>, parts: &mut Parts) -> Result<Item, Misread>
+    requires { IfSome page (λ page. IsPage page.now) }
     ensures { Takes item_fields IsAdd (left parts.old) (left parts.new) result }
 {
     let item = take_item(alloc, page, parts)?;
@@ -104,8 +106,8 @@ fn take_add(alloc: Global, page: Option<&Uri>, parts: &mut Parts) -> Result<Item
 }
 
 /// Reads what stands behind `F+`.
-fn add_line(alloc: Global, page: Option<&Uri>, parts: &mut Parts) -> Result<Line, Misread>
-    requires { IfSome page (λ uri. IsAddress uri.now) }
+fn add_line(alloc: Global, page: Option<&Page>, parts: &mut Parts) -> Result<Line, Misread>
+    requires { IfSome page (λ page. IsPage page.now) }
     ensures { Takes rest_of (IsTagged (codes "F+")) (left parts.old) (left parts.new) result }
 {
     match take_add(alloc, page, parts) {
@@ -122,8 +124,8 @@ struct Emission {
 }
 
 /// Takes the item, the ticket and the verdict.
-fn take_emission(alloc: Global, page: Option<&Uri>, parts: &mut Parts) -> Result<Emission, Misread>
-    requires { IfSome page (λ uri. IsAddress uri.now) }
+fn take_emission(alloc: Global, page: Option<&Page>, parts: &mut Parts) -> Result<Emission, Misread>
+    requires { IfSome page (λ page. IsPage page.now) }
     ensures { Takes (λ e. item_fields e.item ++ ticket_fields e.ticket.time e.ticket.caller e.ticket.ticket ++ verdict_field e.verdict ∷ [])
         (λ e. IsTicket e.ticket.time e.ticket.caller e.ticket.ticket × IsItem e.item)
         (left parts.old) (left parts.new) result }
@@ -141,8 +143,8 @@ fn take_emission(alloc: Global, page: Option<&Uri>, parts: &mut Parts) -> Result
 }
 
 /// Reads what stands behind `Fe`.
-fn emit_line(alloc: Global, page: Option<&Uri>, parts: &mut Parts) -> Result<Line, Misread>
-    requires { IfSome page (λ uri. IsAddress uri.now) }
+fn emit_line(alloc: Global, page: Option<&Page>, parts: &mut Parts) -> Result<Line, Misread>
+    requires { IfSome page (λ page. IsPage page.now) }
     ensures { Takes rest_of (IsTagged (codes "Fe")) (left parts.old) (left parts.new) result }
 {
     match take_emission(alloc, page, parts) {
@@ -177,11 +179,11 @@ struct Finishing {
 /// Takes the item, the ticket and the end.
 fn take_finishing(
     alloc: Global,
-    page: Option<&Uri>,
+    page: Option<&Page>,
     outcome: Outcome,
     parts: &mut Parts,
 ) -> Result<Finishing, Misread>
-    requires { IfSome page (λ uri. IsAddress uri.now) }
+    requires { IfSome page (λ page. IsPage page.now) }
     ensures { Takes (λ f. item_fields f.item ++ ticket_fields f.ticket.time f.ticket.caller f.ticket.ticket ++ end_fields f.end)
         (λ f. IsTicket f.ticket.time f.ticket.caller f.ticket.ticket × IsItem f.item × IsEnd f.end × (f.end.outcome ≡ outcome))
         (left parts.old) (left parts.new) result }
@@ -195,11 +197,11 @@ fn take_finishing(
 /// Reads what stands behind the tag of an outcome.
 fn finish_line(
     alloc: Global,
-    page: Option<&Uri>,
+    page: Option<&Page>,
     outcome: Outcome,
     parts: &mut Parts,
 ) -> Result<Line, Misread>
-    requires { IfSome page (λ uri. IsAddress uri.now) }
+    requires { IfSome page (λ page. IsPage page.now) }
     ensures { Takes rest_of (IsTagged (outcome_tag outcome)) (left parts.old) (left parts.new) result }
 {
     match take_finishing(alloc, page, outcome, parts) {
@@ -227,11 +229,11 @@ fn finish_line(
 /// Reads what stands behind a tag.
 fn tagged_line(
     alloc: Global,
-    page: Option<&Uri>,
+    page: Option<&Page>,
     tag: &[u8],
     parts: &mut Parts,
 ) -> Result<Line, Misread>
-    requires { IfSome page (λ uri. IsAddress uri.now) }
+    requires { IfSome page (λ page. IsPage page.now) }
     ensures { Takes rest_of (IsTagged tag.now) (left parts.old) (left parts.new) result }
 {
     match tag {
@@ -247,10 +249,10 @@ fn tagged_line(
     }
 }
 
-/// The line that a text spells, but for the line feed at its end. A via is often the address of the page, which is
-/// then not read anew.
-pub fn read_line(alloc: Global, page: Option<&Uri>, text: &[u8]) -> Result<Line, Misread>
-    requires { IfSome page (λ uri. IsAddress uri.now) }
+/// The line that a text spells, but for the line feed at its end. The host of an item is often that of the page, and its
+/// via the page, which are then not read anew.
+pub fn read_line(alloc: Global, page: Option<&Page>, text: &[u8]) -> Result<Line, Misread>
+    requires { IfSome page (λ page. IsPage page.now) }
     ensures { Reads (IsLineOf text.now) result }
 {
     let mut parts = Parts::of(b' ', text);

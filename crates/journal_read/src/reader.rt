@@ -1,23 +1,34 @@
 // The events of a text of lines.
-ghost use Rattle.std.specs.Prelude.{◌≡◌, ℕ, ◌<◌, ◌^◌, IfOk, length};
-ghost use Rattle.std.specs.List.{AllByRecursion};
-ghost use Rattle.journal_valid.specs.Valid.{IsEvent, IsSpelled};
+ghost use Rattle.std.specs.Prelude.{◌≡◌, ℕ, ◌<◌, ◌^◌, IfOk, IfSome, length};
+ghost use Rattle.journal_valid.specs.Valid.{IsSpelled};
 ghost use Rattle.journal_read.specs.Faults.{IsBadLine};
 ghost use Rattle.journal_read.specs.Joining.{Continues};
+ghost use Rattle.journal_read.specs.Page.{IsPage};
 
 use crate::fault::{LineFault, Misread};
-use crate::joining::{join, page_of};
+use crate::joining::join;
+use crate::line::Line;
+use crate::page::{Page, page_of};
 use crate::parts::cut;
 use crate::read_line::read_line;
 use crawl_kinds::{Event, Listed};
 use std::alloc::Global;
 
-/// Reads a line, without the line feed at its end, behind those of events.
-fn read_next(alloc: Global, events: &mut Vec<Event>, text: &[u8]) -> Result<(), Misread>
-    requires { AllByRecursion IsEvent events.old.items }
-    ensures { Continues text.now events.old.items events.new.items result }
+/// Reads a line, without the line feed at its end, behind those of events. A finish is the page of the items that it adds.
+fn read_next(
+    alloc: Global,
+    page: &mut Option<Page>,
+    events: &mut Vec<Event>,
+    text: &[u8],
+) -> Result<(), Misread>
+    requires { IfSome page.old IsPage }
+    ensures page { IfSome page.new IsPage }
+    ensures line { Continues text.now events.old.items events.new.items result }
 {
-    let line = read_line(alloc, page_of(events), text)?;
+    let line = read_line(alloc, page.as_ref(), text)?;
+    if let Line::Finish { item, .. } = &line {
+        *page = Some(page_of(alloc, &item.uri)?);
+    }
     join(alloc, events, line)
 }
 
@@ -30,6 +41,7 @@ pub fn read_events(alloc: Global, text: &[u8]) -> Result<Listed<Event>, LineFaul
     ensures ok { IfOk result (λ events. IsSpelled events text.now) }
     ensures bad { (n : ℕ) → result ≡ Err (LineFault.BadLine n) → IsBadLine n text.now }
 {
+    let mut page: Option<Page> = None;
     let mut events = Vec::new(alloc);
     let mut rest = text;
     let mut line: u32 = 0;
@@ -38,7 +50,7 @@ pub fn read_events(alloc: Global, text: &[u8]) -> Result<Listed<Event>, LineFaul
         let Some((next, more)) = cut(rest, b'\n') else {
             return Err(LineFault::BadLine { line });
         };
-        match read_next(alloc, &mut events, next) {
+        match read_next(alloc, &mut page, &mut events, next) {
             Ok(()) => rest = more,
             Err(Misread::Bad) => return Err(LineFault::BadLine { line }),
             Err(Misread::NoMemory) => return Err(LineFault::NoMemory),

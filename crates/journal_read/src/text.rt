@@ -1,15 +1,17 @@
 // Texts of visible bytes, and addresses.
-ghost use Rattle.std.specs.Prelude.{◌≡◌, ℕ, IsTrue, IfOk, MatchOption};
+ghost use Rattle.std.specs.Prelude.{◌≡◌, ℕ, IsTrue, IfOk, IfSome, MatchOption};
 ghost use Rattle.std.specs.List.{list_all};
+ghost use Rattle.crawl_kinds.specs.Address.{IsUri};
 ghost use Rattle.crawl_kinds.specs.Text.{is_visible, is_text};
+ghost use Rattle.uri_form.specs.Named.{IsNamed, IsSite};
 ghost use Rattle.journal_valid.specs.Items.{IsAddress};
 ghost use Rattle.journal_read.specs.Reading.{AreVisible, Reads};
 
 use crate::fault::Misread;
-use crawl_kinds::{Text, TextFault, TextForm, Uri};
+use crawl_kinds::{NoMemory, Text, TextFault, TextForm, Uri};
 use std::alloc::Global;
 use std::str;
-use uri_form::{UriFault, parse_uri};
+use uri_form::{Named, Site, UriFault, named_on, named_uri, parse_uri};
 
 /// A visible character of ASCII: no space, no control byte.
 fn is_visible(byte: u8) -> bool
@@ -68,4 +70,29 @@ pub fn address_of(alloc: Global, bytes: &[u8]) -> Result<Uri, Misread>
         return Ok(uri);
     }
     Err(Misread::Bad)
+}
+
+/// The address that a text is, with its names.
+fn found_on(alloc: Global, site: Option<&Site>, text: &str) -> Result<Option<Named>, NoMemory>
+    requires { IfSome site (λ site. IsSite site.now) }
+    ensures { IfOk result (λ found. MatchOption found (IsUri text.now → ⊥) (IsNamed text.now)) }
+{
+    match site {
+        Some(site) => named_on(alloc, site, text),
+        None => named_uri(alloc, text),
+    }
+}
+
+/// The address that bytes are, in the form in which it is written, with its names. It is often one of the site.
+pub fn named_of(alloc: Global, site: Option<&Site>, bytes: &[u8]) -> Result<Named, Misread>
+    requires { IfSome site (λ site. IsSite site.now) }
+    ensures { Reads (λ named. IsNamed bytes.now named × IsAddress bytes.now) result }
+{
+    let Some(text) = visible(bytes) else {
+        return Err(Misread::Bad);
+    };
+    match found_on(alloc, site, text)? {
+        Some(named) => Ok(named),
+        None => Err(Misread::Bad),
+    }
 }

@@ -101,7 +101,7 @@ parts_lessen : (f g : List ℕ → List ℕ) → ((part : List ℕ) → Lessens 
 parts_lessen f g each [] = lessens_same []
 parts_lessen f g each (part ∷ parts) = lessens_append (f part) (flat_map f parts) (g part) (flat_map g parts) (each part) (parts_lessen f g each parts)
 
-marked_all : (c : ℕ) (part : List ℕ) (parts : List (List ℕ)) → flat_map (marked c) (part ∷ parts) ≡ c ∷ join_with_byte c (part ∷ parts)
+pub marked_all : (c : ℕ) (part : List ℕ) (parts : List (List ℕ)) → flat_map (marked c) (part ∷ parts) ≡ c ∷ join_with_byte c (part ∷ parts)
 marked_all c part [] = append-nil (marked c part)
 marked_all c part (next ∷ parts) = ap (λ t. marked c part ++ t) (marked_all c next parts)
 

@@ -7,6 +7,7 @@ pub mod KeyBounds
 pub mod KeyLaws
 pub mod Marks
 pub mod RobotsLaws
+pub mod Sites
 pub mod UriLaws
 pub mod Visible
 pub mod Www

@@ -1,4 +1,5 @@
 pub mod Fault
 pub mod Laws
 pub mod Members
+pub mod Named
 pub mod Prefix

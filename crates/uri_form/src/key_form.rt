@@ -47,7 +47,7 @@ fn without_www(name: &str) -> &str
 }
 
 /// Puts a host at the end of a text, a name without its `www`.
-fn push_host(out: &mut String, url: &Url) -> Result<(), NoMemory>
+pub(crate) fn push_host(out: &mut String, url: &Url) -> Result<(), NoMemory>
     requires { IsTrue (is_web url.now) }
     ensures { OnOk result (string_bytes out.new
         ≡ string_bytes out.old ++ host_text (host_map name_without_www (host_or_empty url.now))) }
@@ -107,7 +107,7 @@ fn is_robots(url: &Url) -> bool
 }
 
 /// The key of a URL.
-fn key_of(alloc: Global, url: &Url) -> Result<String, NoMemory>
+pub(crate) fn key_of(alloc: Global, url: &Url) -> Result<String, NoMemory>
     requires web { IsTrue (is_web url.now) }
     requires fragment { url.now.fragment ≡ None }
     ensures { IfOk result (λ text. string_bytes text ≡ key_of url.now) }

@@ -14,13 +14,13 @@ use url::{Position, Url};
 pub(crate) const MOST_TEXT: usize = 65536;
 
 /// The most bytes of an address.
-const MOST_URI: usize = 2083;
+pub(crate) const MOST_URI: usize = 2083;
 
 /// The most bytes of an address before its path.
-const MOST_HEAD: usize = 2072;
+pub(crate) const MOST_HEAD: usize = 2072;
 
 /// The scheme is http or https.
-fn is_web(url: &Url) -> bool
+pub(crate) fn is_web(url: &Url) -> bool
     ensures { result ≡ is_web url.now }
 {
     let scheme = url.scheme();

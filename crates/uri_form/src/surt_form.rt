@@ -95,7 +95,7 @@ fn surt_of(alloc: Global, url: &Url) -> Result<String, NoMemory>
 }
 
 /// The class of a URL.
-fn class_of(alloc: Global, url: &Url) -> Result<String, NoMemory>
+pub(crate) fn class_of(alloc: Global, url: &Url) -> Result<String, NoMemory>
     requires { IsTrue (is_web url.now) }
     ensures { IfOk result (λ text. string_bytes text ≡ class_of url.now) }
 {

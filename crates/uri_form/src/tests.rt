@@ -2,6 +2,7 @@
 use crate::*;
 use crawl_kinds::TextFault;
 use std::alloc::Global;
+use std::process::Abort;
 use std::test::Fail;
 
 fn read(alloc: Global, text: &str) -> Result<String, Fail> {
@@ -282,6 +283,64 @@ fn seeds_are_refused_by_their_first_fault(rt: HostRuntime) -> Result<(), Fail> {
     for (front, letters, back, wanted) in &rows {
         let text = with_letters(alloc, front, *letters, back)?;
         assert_eq!(rt; seed_prefix(alloc, text.as_str()).err(), *wanted);
+    }
+    Ok(())
+}
+
+// Whether a text is read as an address with the names that it has.
+fn is_named(rt: &impl Abort, alloc: Global, site: &Site, text: &str) -> Result<bool, Fail> {
+    let (Some(one), Some(other)) = (named_uri(alloc, text)?, named_on(alloc, site, text)?) else {
+        return Ok(false);
+    };
+    assert_eq!(rt; one.uri.as_str(), text);
+    assert_eq!(rt; other.uri.as_str(), text);
+    let uri = parse_uri(alloc, text)?;
+    assert!(rt;
+        one.key == canonical_key(alloc, &uri)? && other.key == one.key,
+        "{text}"
+    );
+    assert!(rt;
+        one.class == class_key(alloc, &uri)? && other.class == one.class,
+        "{text}"
+    );
+    Ok(true)
+}
+
+#[test]
+fn addresses_of_a_site_have_their_names(rt: HostRuntime) -> Result<(), Fail> {
+    let alloc = rt.alloc();
+    let front = "https://user@www.a.example.test:8080";
+    let site = site_of(
+        alloc,
+        &parse_uri(alloc, format!(in alloc; "{front}/x?y")?.as_str())?,
+    )?;
+    for (path, named) in [
+        ("/", true),
+        ("/A/b-c_d/e.html", true),
+        ("/robots.txt", true),
+        ("/robots.txt?a", true),
+        ("/a;jsessionid=0123456789abcdef0123456789abcdef?SID&b", true),
+        ("//a/", true),
+        ("/.a/%2e", false),
+        ("/.a/b", true),
+        ("/a/../b", false),
+        ("/a#b", false),
+        ("", false),
+        ("0/", false),
+    ] {
+        let text = format!(in alloc; "{front}{path}")?;
+        assert_eq!(rt;
+            is_named(&rt, alloc, &site, text.as_str())?,
+            named,
+            "{path}"
+        );
+    }
+    for (text, named) in [
+        ("http://b.test/a", true),
+        ("http://B.test/a", false),
+        ("a", false),
+    ] {
+        assert_eq!(rt; is_named(&rt, alloc, &site, text)?, named, "{text}");
     }
     Ok(())
 }

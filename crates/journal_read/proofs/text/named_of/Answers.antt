@@ -1,0 +1,6 @@
+use Rattle.crawl_kinds.specs.Text.{is_visible}
+use Rattle.journal_read.proofs.Texts.{all_from_text}
+use Rattle.journal_read.proofs.text.named_of.Goals as goal
+
+pub returns-in_default : goal.returns-in_default
+returns-in_default c x is = c.in_default.ensures (all_from_text is_visible 2083 c.args.bytes.now is.1.visible)
