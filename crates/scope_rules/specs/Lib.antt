@@ -1,0 +1,4 @@
+pub mod Asked
+pub mod Patterns
+pub mod Prefixes
+pub mod Runs
