@@ -1,5 +1,5 @@
 -- What rules decide, as they grow at their end.
-use Rattle.std.proofs.Common.{◌≡◌, ◌∙◌, ℕ, ◌+◌, ◌-◌, ◌≤◌, List, [], ◌∷◌, ◌++◌, append_assoc, append-nil, Option, Some, None, map, take, drop, length, length-append, length-take-le, refl, sym, ap, unwrap_or, arith}
+use Rattle.std.proofs.Common.{◌≡◌, ◌∙◌, ℕ, ◌+◌, ◌-◌, ◌≤◌, List, [], ◌∷◌, ◌++◌, append-nil, Option, Some, None, map, take, drop, length, length-append, length-take-le, refl, sym, ap, unwrap_or, arith}
 use borrow.Rule.Slice.PartMut.{put_mid}
 use Rattle.std.specs.List.{filter_map, last_or}
 use Rattle.std.proofs.lemmas.List.{map_push, take-append-drop, take_at, drop_at, take-take, drop-take}

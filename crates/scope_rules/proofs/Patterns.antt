@@ -1,5 +1,5 @@
 -- Which texts are patterns, and where a compiled one is found.
-use Rattle.std.proofs.Common.{◌≡◌, ◌≢◌, ◌<◌, ◌≤◌, ℕ, length, List, Bool, true, false, Option, Some, None, ◌⊎◌, ⊎_elim, refl, ap, ◌∙◌, nat_le, subst, get_or, arith}
+use Rattle.std.proofs.Common.{◌≡◌, ◌≢◌, ◌<◌, ◌≤◌, ℕ, length, List, true, false, Option, Some, None, ⊎_elim, refl, ap, nat_le, get_or, arith}
 use Rattle.std.proofs.lemmas.Bool.Decides.{nat_tests}
 use Rattle.std.specs.Prelude.{IsSomeAnd, IfSome, chars, is_some}
 use Rattle.regex_hir.specs.Re.{Re}
@@ -13,10 +13,10 @@ use Rattle.regex_syntax.specs.declared.error.ErrorKind.{ErrorKind}
 use Rattle.regex_syntax.specs.declared.error.ErrorKind.TheVariants.{OutOfMemory}
 use Rattle.regex_syntax.specs.Verdict.{Reads, Refuses}
 use Rattle.regex.specs.Patterns.{default_config, find_str}
-use Rattle.regex.specs.Strings.{regex_pattern, regex_source, regex_config, regex_names, IsReadFromSource}
+use Rattle.regex.specs.Strings.{regex_pattern, regex_source, regex_names}
 use Rattle.regex.specs.declared.string.regex.Regex.{Regex}
 use Rattle.regex.proofs.ForCallers.{is_match_alike}
-use Rattle.scope_spec.specs.Pattern.{is_pattern, is_found}
+use Rattle.scope_spec.specs.Pattern.{is_pattern}
 use Rattle.scope_rules.specs.Patterns.{Finds, IsCompiled}
 
 within : (o : Option (Nested Re × Names)) (W : Nested Re × Names → Type 0) → ((x : Nested Re × Names) → W x → x.0.depth ≤ 250) → IsSomeAnd o W

@@ -2,7 +2,7 @@
 --     is_bad source      the text is no pattern
 --     IsCompiled regex      the regex is what the grammar reads in its text, with the default options
 --     Finds source re      the expression has a match in a text just where the pattern is found in it
-use Rattle.std.specs.Prelude.{◌≡◌, ℕ, ◌<◌, Bool, not, List, get_or, is_some, slice_index}
+use Rattle.std.specs.Prelude.{◌≡◌, ℕ, ◌<◌, Bool, not, List, get_or, is_some}
 use Rattle.scope_spec.specs.Pattern.{is_found, is_pattern}
 use Rattle.regex.specs.Patterns.{Re, find_str, default_config}
 use Rattle.regex.specs.Strings.{regex_config, IsReadFromSource}

@@ -42,7 +42,7 @@ impl Scope {
 }
 
 impl Decider<'_> {
-    /// Decides on a candidate.
+    /// Decides on a candidate. It cannot fail: a search whose caches get no memory goes on without them.
     pub fn decide(&mut self, candidate: &Candidate) -> Decision
         ensures decision { result ≡ decision self.old.rules self.old.seeds candidate.now.uri candidate.now.surt candidate.now.path }
         ensures same { self.new ≡ self.old }

@@ -128,7 +128,11 @@ impl ReadyRule {
     }
 }
 
-/// What the rules decide, by what searches for their patterns: the last answer, and where there is none, to reject.
+/// What is decided where no rule answers.
+const UNDECIDED: Decision = Decision::Reject;
+
+/// What the rules decide, by what searches for their patterns: the last answer. It is sought from the last rule
+/// back.
 pub(crate) fn decide_by(
     rules: &[ReadyRule],
     seeds: &SeedPrefixes,
@@ -149,5 +153,5 @@ pub(crate) fn decide_by(
         left = earlier;
         end = start;
     }
-    Decision::Reject
+    UNDECIDED
 }

@@ -262,14 +262,18 @@ fn texts_that_are_no_patterns_are_refused(rt: HostRuntime) -> Result<(), Fail> {
         let built = Scope::build(alloc, rules_of(alloc, rules)?, Vec::new(alloc));
         assert_eq!(rt; built.err(), Some(fault), "{rules}");
     }
-    for (depth, taken) in [(249, true), (251, false)] {
-        let nested = format!(in alloc;
+    let deep = [
+        (249, None),
+        (251, Some(ScopeFault::BadPattern { index: 0 })),
+    ];
+    for (depth, fault) in deep {
+        let rule = format!(in alloc;
             "+regex {}{}",
             "(".repeat(alloc, depth)?,
             ")".repeat(alloc, depth)?
         )?;
-        let built = Scope::build(alloc, rules_of(alloc, nested.as_str())?, Vec::new(alloc));
-        assert_eq!(rt; built.is_ok(), taken);
+        let built = Scope::build(alloc, rules_of(alloc, rule.as_str())?, Vec::new(alloc));
+        assert_eq!(rt; built.err(), fault, "{depth}");
     }
     Ok(())
 }

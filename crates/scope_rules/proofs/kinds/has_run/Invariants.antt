@@ -1,7 +1,6 @@
 use Rattle.std.proofs.Common.{◌≡◌, ◌+◌, ◌<◌, ◌≤◌, ◌++◌, length, drop, replicate}
 use Rattle.scope_spec.specs.Answer.{has_run}
 use Rattle.scope_spec.specs.UriParts.{segments_of}
-use Rattle.scope_rules.proofs.Runs.{run_found}
 use Rattle.scope_rules.proofs.kinds.has_run.Given as goal
 
 abbrev pub invariant-loop-segment : goal.invariant-loop-segment

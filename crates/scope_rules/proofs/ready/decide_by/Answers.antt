@@ -1,4 +1,4 @@
-use Rattle.std.proofs.Common.{◌≡◌, ◌∙◌, ◌++◌, ◌∷◌, ◌-◌, ◌≤◌, ℕ, [], ap, sym, subst, take, drop, length, arith}
+use Rattle.std.proofs.Common.{◌≡◌, ◌∙◌, ◌++◌, ◌-◌, ◌≤◌, ap, sym, subst, take, length, arith}
 use borrow.Rule.Slice.PartMut.{put_mid}
 use Rattle.scope_spec.specs.Decision.{patterns_of, rule_patterns}
 use Rattle.scope_rules.proofs.Deciding.{decision-some, decision-none, patterns-end, end-fits, front-of, back-of, put_back}

@@ -1,6 +1,5 @@
 use Rattle.std.proofs.Common.{◌≡◌, ◌≤◌, length, take}
 use Rattle.scope_spec.specs.Decision.{decision, patterns_of}
-use Rattle.scope_rules.proofs.Deciding.{decision-some}
 use Rattle.scope_rules.proofs.ready.decide_by.Given as goal
 
 abbrev pub invariant-rules : goal.invariant-rules
