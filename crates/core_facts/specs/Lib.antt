@@ -1,0 +1,4 @@
+pub mod CoreFacts
+pub mod RobotsAnswer
+pub mod ValidEvent
+pub mod Worked
