@@ -1,0 +1,7 @@
+use Rattle.std.proofs.Common.{List, ℕ}
+use Rattle.std.specs.Prelude.{All}
+use Rattle.crawl_kinds.specs.Address.{IsUri}
+use Rattle.frontier_core.proofs.tests.uris.Given as goal
+
+abbrev pub invariant-loop-text : goal.invariant-loop-text
+invariant-loop-text l = All IsUri l.list

@@ -1,0 +1,46 @@
+-- The core of a crawl: its settings, its scope, and its events so far.
+--     history core, facts core pages      their history, and its facts over any pages
+--     with_event core e      the core with one event more
+--     next_time core now      the time of an event at a moment
+--     known_count core      how many keys are somewhere
+--     seed_adds core pages list      the items that seeds add
+use Rattle.std.specs.Prelude.{ℕ, min, max, List, [], ◌∷◌, ◌++◌, length}
+use Rattle.crawl_kinds.specs.declared.settings.Settings.{Settings}
+use Rattle.crawl_kinds.specs.declared.event.TheConstants.{MAX_MS}
+use Rattle.crawl_kinds.specs.declared.event.Event.{Event}
+use Rattle.crawl_kinds.specs.declared.item.Item.{Item}
+use Rattle.crawl_history.specs.History.{History, history_of, last_time}
+use Rattle.crawl_history.specs.Places.{known_keys}
+use Rattle.crawl_history.specs.Facts.{Facts}
+use Rattle.crawl_history.specs.Adds.{seed_candidates, new_items}
+use Rattle.scope_spec.specs.Decision.{ScopeRules}
+use Rattle.core_facts.specs.CoreFacts.{Pages, facts_with}
+
+pub record Core : Type 0 where
+  pub settings : Settings
+  pub scope : ScopeRules
+  pub events : List Event
+
+-- its events from the start
+abbrev pub history : Core → History
+history core = history_of core.events
+
+-- the facts that its settings and its scope give, over these pages
+abbrev pub facts : Core → Pages → Facts
+facts core pages = facts_with core.settings (core.scope ∷ []) pages
+
+-- with one event more
+abbrev pub with_event : Core → Event → Core
+with_event core e = record { settings = core.settings; scope = core.scope; events = core.events ++ e ∷ [] }
+
+-- a moment, cut at the latest one, and no earlier than any event
+abbrev pub next_time : Core → ℕ → ℕ
+next_time core now = max (last_time (history core)) (min now MAX_MS)
+
+-- how many keys are somewhere
+abbrev pub known_count : Core → ℕ
+known_count core = length (known_keys (history core))
+
+-- the items that these seeds add: those in scope whose key is nowhere, each key once
+abbrev pub seed_adds : Core → Pages → List (List ℕ) → List Item
+seed_adds core pages list = new_items (facts core pages) (history core) (seed_candidates (facts core pages) list)

@@ -1,0 +1,237 @@
+// The core over small histories: which events it takes, where keys are, and what seeds add.
+ghost use Rattle.std.specs.Prelude.{◌≡◌, true, IfOk, All};
+ghost use Rattle.std.specs.List.{list_any};
+ghost use Rattle.crawl_kinds.specs.Address.{IsUri};
+ghost use Rattle.crawl_history.specs.History.{is_session};
+
+use crate::item::seed_item;
+use crate::*;
+use crawl_kinds::{
+    End, Event, Fetch, Item, Items, Key, Notes, Outcome, Place, Settings, Uri, Uris, Verdict,
+};
+use scope_rules::{Decision, Rule, Scope};
+use std::alloc::Global;
+use std::test::Fail;
+use uri_form::{Surt, parse_uri};
+
+const START: u64 = 1_700_000_000_000;
+
+fn settings(alloc: Global, max_keys: u64) -> Result<Settings, Fail> {
+    Ok(Settings {
+        name: Key::new(alloc, "sample")?,
+        agent: Key::new(alloc, "sampler")?,
+        contact: Uri::new(alloc, "http://example.org/bot")?,
+        proxy: None,
+        workers: 1,
+        delay_factor: 0,
+        min_delay_ms: 0,
+        max_delay_ms: 0,
+        max_crawl_delay_s: 0,
+        max_tries: 1,
+        retry_delay_s: 0,
+        timeout_ms: 20_000,
+        host_budget: 0,
+        max_pages: 0,
+        max_bytes: 0,
+        max_seconds: 0,
+        max_keys,
+        max_response_bytes: 8_388_608,
+        warc_max_bytes: 1_000_000_000,
+        checkpoint_finishes: 10_000,
+    })
+}
+
+// All of the domain `test`.
+fn scope(alloc: Global) -> Result<Scope, Fail> {
+    let mut prefixes = Vec::new(alloc);
+    prefixes.push(Surt::new(alloc, "http://(test,")?)?;
+    let mut rules = Vec::new(alloc);
+    rules.push(Rule::Surts {
+        answer: Decision::Accept,
+        prefixes: prefixes.into(),
+        seeds: false,
+    })?;
+    Ok(Scope::build(alloc, rules, Vec::new(alloc))?)
+}
+
+fn item(alloc: Global, text: &str) -> Result<Item, Fail> {
+    let uri = parse_uri(alloc, text)?;
+    Ok(seed_item(alloc, &uri)?)
+}
+
+fn items(alloc: Global, texts: &[&str]) -> Result<Items, Fail> {
+    let mut made = Items::new(alloc);
+    for text in texts {
+        made.push(item(alloc, text)?)?;
+    }
+    Ok(made)
+}
+
+fn uris(alloc: Global, texts: &[&str]) -> Result<Uris, Fail>
+    ensures { IfOk result (λ list. All IsUri list) }
+{
+    let mut list = Uris::new(alloc);
+    for text in texts {
+        list.push(parse_uri(alloc, text)?)?;
+    }
+    Ok(list)
+}
+
+fn added(alloc: Global, texts: &[&str]) -> Result<Event, Fail> {
+    Ok(Event::Seeds {
+        time: START,
+        list: Uris::new(alloc),
+        adds: items(alloc, texts)?,
+    })
+}
+
+fn emitted(alloc: Global, ticket: u64, text: &str) -> Result<Event, Fail> {
+    Ok(Event::Emit {
+        time: START,
+        caller: 0,
+        ticket,
+        verdict: Verdict::Allowed,
+        item: item(alloc, text)?,
+    })
+}
+
+fn failed(alloc: Global, ticket: u64, text: &str) -> Result<Event, Fail> {
+    Ok(Event::Finish {
+        time: START + 5,
+        caller: 0,
+        ticket,
+        item: item(alloc, text)?,
+        end: End {
+            outcome: Outcome::Failure,
+            code: -404,
+            fetch: Some(Fetch {
+                start: START,
+                duration: 0,
+            }),
+            body: None,
+            notes: Notes {
+                cut: None,
+                tries: 1,
+                cause: 0,
+            },
+        },
+        adds: Items::new(alloc),
+    })
+}
+
+// A session, and two seeds.
+fn begun(alloc: Global) -> Result<Vec<Event>, Fail>
+    ensures { IfOk result (λ events. list_any is_session events.items ≡ true) }
+{
+    let mut events = Vec::new(alloc);
+    events.push(Event::Session {
+        time: START,
+        job: Key::new(alloc, "sample")?,
+        format: 1,
+    })?;
+    events.push(added(alloc, &["http://a.test/", "http://b.test/x"])?)?;
+    Ok(events)
+}
+
+// The place of the event that is refused, where one is.
+fn refused(alloc: Global, more: Event) -> Result<Option<usize>, Fail> {
+    let mut events = begun(alloc)?;
+    events.push(more)?;
+    match Frontier::fold(alloc, settings(alloc, 9)?, scope(alloc)?, events) {
+        Ok(_) => Ok(None),
+        Err(FoldFault::NotAStep { index }) => Ok(Some(index)),
+        Err(FoldFault::NoMemory) => Err(Fail::from("no memory")),
+    }
+}
+
+#[test]
+fn events_that_cannot_stand_are_refused(rt: HostRuntime) -> Result<(), Fail> {
+    let alloc = rt.alloc();
+    assert_eq!(rt;
+        refused(alloc, failed(alloc, 9, "http://a.test/")?)?,
+        Some(2)
+    );
+    assert_eq!(rt;
+        refused(alloc, emitted(alloc, 2, "http://a.test/")?)?,
+        Some(2)
+    );
+    assert_eq!(rt;
+        refused(alloc, emitted(alloc, 1, "http://c.test/")?)?,
+        Some(2)
+    );
+    assert_eq!(rt;
+        refused(alloc, added(alloc, &["http://c.test/", "http://a.test/"])?)?,
+        Some(2)
+    );
+    assert_eq!(rt;
+        refused(alloc, added(alloc, &["http://c.test/", "http://c.test/"])?)?,
+        Some(2)
+    );
+    assert_eq!(rt;
+        refused(alloc, emitted(alloc, 1, "http://b.test/x")?)?,
+        None
+    );
+    Ok(())
+}
+
+#[test]
+fn keys_are_nowhere_or_wait_or_are_done(rt: HostRuntime) -> Result<(), Fail> {
+    let alloc = rt.alloc();
+    let mut events = begun(alloc)?;
+    events.push(emitted(alloc, 1, "http://a.test/")?)?;
+    events.push(failed(alloc, 1, "http://a.test/")?)?;
+    let frontier = Frontier::fold(alloc, settings(alloc, 9)?, scope(alloc)?, events)?;
+    let rows = [
+        ("http://a.test/", Place::Done(-404)),
+        ("http://b.test/x", Place::Waiting),
+        ("http://c.test/", Place::Absent),
+    ];
+    for (text, place) in &rows {
+        assert_eq!(rt; frontier.place_of(&Key::new(alloc, text)?), *place);
+    }
+    assert_eq!(rt; frontier.known(), 2);
+    assert_eq!(rt; frontier.events().len(), 4);
+    assert_eq!(rt; frontier.settings().max_keys, 9);
+    Ok(())
+}
+
+// How many items seeds added.
+fn adds_in(event: &Event) -> usize {
+    match event {
+        Event::Seeds { adds, .. } => adds.as_slice().len(),
+        _ => 0,
+    }
+}
+
+// How many items seeds add behind the first two, and the keys and events that there are then.
+fn seeded(alloc: Global, max_keys: u64) -> Result<(Result<usize, FrontierStop>, u64, usize), Fail> {
+    let mut frontier = Frontier::fold(
+        alloc,
+        settings(alloc, max_keys)?,
+        scope(alloc)?,
+        begun(alloc)?,
+    )?;
+    let list = uris(
+        alloc,
+        &[
+            "http://a.test/",
+            "http://c.test/",
+            "http://c.example/",
+            "http://www.c.test/",
+        ],
+    )?;
+    let adds = match frontier.seeds(alloc, &list, START - 1) {
+        Ok(event) => Ok(adds_in(&event)),
+        Err(stop) => Err(stop),
+    };
+    Ok((adds, frontier.known(), frontier.events().len()))
+}
+
+#[test]
+fn seeds_in_scope_are_added_once(rt: HostRuntime) -> Result<(), Fail> {
+    let alloc = rt.alloc();
+    let full = Err(FrontierStop::Full { known: 2, adds: 1 });
+    assert_eq!(rt; seeded(alloc, 3)?, (Ok(1), 3, 3));
+    assert_eq!(rt; seeded(alloc, 2)?, (full, 2, 2));
+    Ok(())
+}
