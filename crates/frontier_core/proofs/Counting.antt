@@ -1,13 +1,12 @@
 -- How many keys are known: as many as are kept.
-use Rattle.std.proofs.Common.{◌≡◌, ℕ, ◌+◌, ◌<◌, Bool, true, false, ◌||◌, not, cond, List, [], ◌∷◌, ◌++◌, map, length, refl, sym, ◌∙◌, ap, subst, Option, Some, None, arith, ⊎_elim}
-use Rattle.std.specs.Prelude.{◌&&◌, is_some, unwrap_or, option_map, bytes_eq, flat_map, filter_map, if◌then◌else◌}
+use Rattle.std.proofs.Common.{◌≡◌, ℕ, ◌+◌, Bool, true, false, ◌||◌, not, List, [], ◌∷◌, ◌++◌, map, length, refl, sym, ◌∙◌, ap, subst, Option, Some, None, arith}
+use Rattle.std.specs.Prelude.{◌&&◌, is_some, unwrap_or, bytes_eq, flat_map, filter_map, if◌then◌else◌}
 use Rattle.std.specs.List.{list_any, AllByRecursion, IsDistinct, cons_option}
 use Rattle.std.specs.Option.{option_or}
 use Rattle.std.specs.Ordering.{nat_cmp, eq_by_cmp}
 use Rattle.std.specs.Cmp.{IsEquivalence, eq_by_cmp_equiv}
 use Rattle.std.specs.Cmp.Lexicographic.{slice_cmp}
-use Rattle.std.specs.BTreeMap.{BTreeMap, keys, btree_map_len, IsOrdered}
-use Rattle.std.proofs.lemmas.Bool.{cases_Bool}
+use Rattle.std.specs.BTreeMap.{keys, btree_map_len, IsOrdered}
 use Rattle.std.proofs.lemmas.Cmp.{nat_list_cmp_total}
 use Rattle.std.proofs.lemmas.List.{map-append, append_assoc, append-nil, length-append, length-map}
 use Rattle.std.proofs.lemmas.List.Folds.{list_any-append}
@@ -22,10 +21,10 @@ use Rattle.crawl_kinds.specs.declared.event.Outcome.{Outcome}
 use Rattle.crawl_kinds.specs.declared.event.Outcome.TheVariants.{Success, Failure, Disregard, Retry}
 use Rattle.crawl_kinds.specs.declared.event.End.{End}
 use Rattle.crawl_kinds.specs.declared.event.Place.{Place}
-use Rattle.crawl_kinds.specs.declared.event.Place.TheVariants.{Absent, Waiting, Done}
+use Rattle.crawl_kinds.specs.declared.event.Place.TheVariants.{Absent, Waiting}
 use Rattle.crawl_kinds.specs.declared.item.Item.{Item}
 use Rattle.crawl_kinds.specs.Event.{adds_of, finish_of, Finishing}
-use Rattle.crawl_history.specs.Scans.{last_of, distinct, distinct_from}
+use Rattle.crawl_history.specs.Scans.{last_of, distinct_from}
 use Rattle.crawl_history.specs.History.{history_of}
 use Rattle.crawl_history.specs.Places as history
 use Rattle.crawl_history.specs.Places.{has_key, adds_key, finishes_key, is_finish_of, names_key, place_by_finish, place_after, is_absent, known_keys}

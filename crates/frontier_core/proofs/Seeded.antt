@@ -1,14 +1,14 @@
 -- The core after seeds.
-use Rattle.std.proofs.Common.{◌≡◌, ℕ, ◌+◌, ◌-◌, ◌<◌, ◌≤◌, max, min, true, List, [], ◌∷◌, ◌++◌, length, refl, sym, ◌∙◌, ap, subst, Option, Some, None, arith}
+use Rattle.std.proofs.Common.{◌≡◌, ℕ, ◌+◌, ◌<◌, max, min, true, List, [], ◌∷◌, ◌++◌, length, sym, ◌∙◌, ap, subst, None}
 use Rattle.std.specs.List.{AllByRecursion}
 use Rattle.crawl_kinds.specs.declared.event.TheConstants.{MAX_MS}
 use Rattle.crawl_kinds.specs.declared.event.Event.{Event}
 use Rattle.crawl_kinds.specs.declared.event.Event.TheVariants.{Seeds}
 use Rattle.crawl_kinds.specs.declared.item.Item.{Item}
-use Rattle.crawl_history.specs.History.{history_of, last_time}
+use Rattle.crawl_history.specs.History.{history_of}
 use Rattle.core_facts.specs.CoreFacts.{Pages}
 use Rattle.frontier_core.specs.Answers.{IsSeeded, IsFull}
-use Rattle.frontier_core.specs.Core.{Core, history, with_event, next_time, known_count, seed_adds}
+use Rattle.frontier_core.specs.Core.{Core, history, next_time, known_count, seed_adds}
 use Rattle.frontier_core.specs.declared.memo.Memo.{Memo}
 use Rattle.frontier_core.specs.Keeping.{known_at, after_adds, are_free}
 use Rattle.frontier_core.specs.Memory.{Remembers}

@@ -1,7 +1,7 @@
 -- What is kept after each kind of event says what the history says.
 use Rattle.std.proofs.Common.{◌≡◌, ℕ, ◌+◌, ◌≤◌, ◌<◌, max, Bool, true, false, ◌||◌, not, ◌==◌, cond, List, [], ◌∷◌, ◌++◌, map, refl, sym, ◌∙◌, ap, subst, Option, Some, None, add-zero, arith, ⊎_elim}
 use Rattle.std.proofs.lemmas.Bool.{cases_Bool}
-use Rattle.std.specs.Prelude.{filter, find, option_map, option_to_list, IfSome}
+use Rattle.std.specs.Prelude.{filter, find, option_map, IfSome}
 use Rattle.std.specs.List.{list_any, AllByRecursion}
 use Rattle.std.proofs.lemmas.List.{append-nil, map-append}
 use Rattle.std.proofs.lemmas.Bool.Decides.{Decides-eqb}
@@ -9,9 +9,8 @@ use Rattle.std.specs.BTreeMap.{BTreeMap}
 use Rattle.crawl_kinds.specs.declared.event.Event.{Event}
 use Rattle.crawl_kinds.specs.declared.event.Event.TheVariants.{Session, Seeds, Emit, Finish}
 use Rattle.crawl_kinds.specs.declared.event.End.{End}
-use Rattle.crawl_kinds.specs.declared.event.Place.{Place}
 use Rattle.crawl_kinds.specs.declared.item.Item.{Item}
-use Rattle.crawl_kinds.specs.Event.{adds_of, finish_of, time_of, Emission, Finishing}
+use Rattle.crawl_kinds.specs.Event.{adds_of, time_of, Emission, Finishing}
 use Rattle.crawl_history.specs.History.{History, with_event, session_finishes, ticket_count, last_time}
 use Rattle.crawl_history.specs.Places.{place_of, has_key, is_waiting}
 use Rattle.crawl_history.specs.Tickets.{emits_out, emit_out, is_ended}
@@ -21,8 +20,8 @@ use Rattle.frontier_core.specs.declared.known.Known.{Known}
 use Rattle.frontier_core.specs.declared.known.Known.TheVariants as known
 use Rattle.frontier_core.specs.declared.memo.Memo.{Memo}
 use Rattle.frontier_core.specs.declared.memo.Out.{Out}
-use Rattle.frontier_core.specs.Fits.{last_added, AddsFit, EmitFits, FinishFits, Fits}
-use Rattle.frontier_core.specs.Keeping.{known_at, place_by, waits_by, item_by, after_adds, after_finish, are_free}
+use Rattle.frontier_core.specs.Fits.{last_added, AddsFit, EmitFits, FinishFits}
+use Rattle.frontier_core.specs.Keeping.{known_at, place_by, item_by, after_adds, after_finish, are_free}
 use Rattle.frontier_core.specs.Memory.{Tells, emission, Remembers}
 use Rattle.frontier_core.specs.Taking.{MayEmit, MayFinish, Takes, item_under}
 use Rattle.frontier_core.proofs.Lists.{map-filter, find-map, any-map, all-append, all-filter, all-weaker, found, filter-all, filter-same}

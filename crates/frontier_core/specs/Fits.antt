@@ -4,7 +4,7 @@
 --     Fits h e      the event e may stand after h
 --     AllFit events      each event may stand after those before it
 --     IsFirstUnfit events i      the event at i is the first that may not
-use Rattle.std.specs.Prelude.{◌≡◌, ℕ, ◌+◌, Bool, true, false, List, ◌∷◌, ◌++◌, take, slice_get, Option, Some, None, unwrap_or, option_map, if◌then◌else◌, ⊤}
+use Rattle.std.specs.Prelude.{◌≡◌, ℕ, ◌+◌, true, false, List, ◌∷◌, ◌++◌, take, slice_get, Option, Some, None, unwrap_or, option_map, if◌then◌else◌, ⊤}
 use Rattle.std.specs.List.{list_any}
 use Rattle.crawl_kinds.specs.declared.event.Place.{Place}
 use Rattle.crawl_kinds.specs.declared.event.Place.TheVariants.{Waiting}
@@ -15,7 +15,7 @@ use Rattle.crawl_kinds.specs.Event.{adds_of, finish_of}
 use Rattle.crawl_history.specs.Scans.{last_of}
 use Rattle.crawl_history.specs.History.{History, history_of, ticket_count}
 use Rattle.crawl_history.specs.Places.{place_of, place_by_finish, is_waiting, has_key}
-use Rattle.crawl_history.specs.Queues.{Add, all_adds}
+use Rattle.crawl_history.specs.Queues.{all_adds}
 use Rattle.crawl_history.specs.Tickets.{emits_out, emit_out}
 
 -- the item, where it has the key

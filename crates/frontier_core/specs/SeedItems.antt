@@ -2,7 +2,7 @@
 --     seed_item uri      the item of a seed
 --     is_taken places scope item      the scope takes it, and nothing is kept of its key
 --     taken places scope list      those of these seeds, each key once
-use Rattle.std.specs.Prelude.{ℕ, Bool, ◌&&◌, List, [], map, filter, Option, None, is_none}
+use Rattle.std.specs.Prelude.{ℕ, Bool, ◌&&◌, List, [], map, filter, None, is_none}
 use Rattle.std.specs.BTreeMap.{BTreeMap}
 use Rattle.crawl_kinds.specs.declared.item.Item.{Item}
 use Rattle.crawl_history.specs.Scans.{distinct}

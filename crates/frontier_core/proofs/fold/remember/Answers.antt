@@ -1,11 +1,8 @@
-use Rattle.std.proofs.Common.{◌≡◌, ℕ, ◌+◌, Bool, true, false, List, ◌∷◌, ◌++◌, [], take, get_or, sym, ap, subst, ◌∙◌, arith, Some, None}
+use Rattle.std.proofs.Common.{◌≡◌, ◌+◌, true, false, List, ◌∷◌, ◌++◌, [], take, sym, ap, subst, ◌∙◌, arith, Some}
 use Rattle.std.proofs.lemmas.List.{take_all}
 use Rattle.std.proofs.lemmas.Option.{slice_get-get_or}
 use Rattle.crawl_kinds.specs.declared.event.Event.{Event}
 use Rattle.crawl_history.specs.History.{history_of}
-use Rattle.frontier_core.specs.declared.stop.FoldFault.{FoldFault}
-use Rattle.frontier_core.specs.declared.stop.FoldFault.TheVariants.{NotAStep}
-use Rattle.frontier_core.specs.declared.memo.Memo.{Memo}
 use Rattle.frontier_core.specs.Fits.{AllFit, IsFirstUnfit}
 use Rattle.frontier_core.specs.Memory.{Remembers}
 use Rattle.frontier_core.specs.Taking.{Takes}

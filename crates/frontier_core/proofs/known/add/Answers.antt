@@ -1,6 +1,6 @@
 use Rattle.std.proofs.Common.{Some}
 use Rattle.frontier_core.specs.declared.known.Known.TheVariants as known
-use Rattle.std.proofs.Common.{◌≡◌, ap, ◌∙◌}
+use Rattle.std.proofs.Common.{ap, ◌∙◌}
 use Rattle.std.specs.Prelude.{if◌then◌else◌}
 use Rattle.crawl_kinds.specs.declared.item.Item.{Item}
 use Rattle.crawl_history.specs.Places.{has_key}

@@ -1,4 +1,4 @@
-use Rattle.std.proofs.Common.{◌≡◌, List, take, refl, sym, ap, ◌∙◌}
+use Rattle.std.proofs.Common.{List, take, refl, sym, ap, ◌∙◌}
 use Rattle.std.proofs.lemmas.List.{take_all}
 use Rattle.crawl_kinds.specs.declared.item.Item.{Item}
 use Rattle.frontier_core.specs.Keeping.{known_at, after_adds}

@@ -1,7 +1,6 @@
-use Rattle.std.proofs.Common.{◌≡◌, Some, ◌∙◌, sym, ap, not}
+use Rattle.std.proofs.Common.{Some, ◌∙◌, sym, ap, not}
 use Rattle.std.specs.Prelude.{◌&&◌, if◌then◌else◌}
 use Rattle.frontier_core.specs.declared.known.Known.{Known}
-use Rattle.frontier_core.specs.declared.known.Known.TheVariants as known
 use Rattle.crawl_history.specs.Outcomes.{is_retry}
 use Rattle.crawl_history.specs.Places.{has_key}
 use Rattle.frontier_core.specs.Keeping.{known_at}

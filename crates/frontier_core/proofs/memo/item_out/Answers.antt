@@ -1,7 +1,6 @@
-use Rattle.std.proofs.Common.{◌≡◌, ◌==◌, ℕ, ◌+◌, Bool, true, false, cond, List, ◌∷◌, drop, Option, Some, None, refl, sym, ap, ◌∙◌, rules}
+use Rattle.std.proofs.Common.{◌==◌, sym, ap, ◌∙◌, rules}
 use Rattle.std.specs.Prelude.{find, option_map}
 use Rattle.std.proofs.lemmas.List.{drop_all}
-use Rattle.crawl_kinds.specs.declared.item.Item.{Item}
 use Rattle.frontier_core.specs.declared.memo.Out.{Out}
 use Rattle.frontier_core.specs.Taking.{item_under}
 use Rattle.frontier_core.proofs.Keeping.{next_dropped}

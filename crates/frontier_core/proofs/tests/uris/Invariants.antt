@@ -1,4 +1,3 @@
-use Rattle.std.proofs.Common.{List, ℕ}
 use Rattle.std.specs.Prelude.{All}
 use Rattle.crawl_kinds.specs.Address.{IsUri}
 use Rattle.frontier_core.proofs.tests.uris.Given as goal

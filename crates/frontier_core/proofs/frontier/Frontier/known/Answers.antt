@@ -1,4 +1,4 @@
-use Rattle.std.proofs.Common.{◌≡◌, ap, ◌∙◌}
+use Rattle.std.proofs.Common.{ap, ◌∙◌}
 use Rattle.frontier_core.specs.Core as core
 use Rattle.frontier_core.proofs.Counting.{counted}
 use Rattle.frontier_core.proofs.frontier.Frontier.known.Goals as goal

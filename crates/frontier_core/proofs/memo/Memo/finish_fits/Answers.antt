@@ -1,6 +1,5 @@
-use Rattle.std.proofs.Common.{◌≡◌, true, false, Option, Some, None, sym, ap, ◌∙◌}
+use Rattle.std.proofs.Common.{◌≡◌, true, false, Some, None, sym, ap, ◌∙◌}
 use Rattle.frontier_core.specs.Taking.{item_under}
-use Rattle.crawl_kinds.specs.declared.item.Item.{Item}
 use Rattle.frontier_core.proofs.memo.Memo.finish_fits.Goals as goal
 
 pub returns-in_default : goal.returns-in_default

@@ -1,4 +1,4 @@
-use Rattle.std.proofs.Common.{◌≡◌, List, true, sym, subst, ap, ◌∙◌}
+use Rattle.std.proofs.Common.{List, true, sym, subst, ap, ◌∙◌}
 use Rattle.std.proofs.lemmas.Result.{IfOk-weaker}
 use Rattle.crawl_kinds.specs.declared.event.Event.{Event}
 use Rattle.crawl_kinds.specs.declared.event.Event.TheVariants.{Seeds}

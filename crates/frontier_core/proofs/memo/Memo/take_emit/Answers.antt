@@ -1,4 +1,4 @@
-use Rattle.std.proofs.Common.{◌≡◌, true, false, sym, ◌∙◌, refl}
+use Rattle.std.proofs.Common.{refl}
 use Rattle.frontier_core.proofs.Taking.{emit_taken, may_emit}
 use Rattle.frontier_core.proofs.memo.Memo.take_emit.Goals as goal
 

@@ -1,4 +1,4 @@
-use Rattle.std.proofs.Common.{◌≡◌, true, false, sym, ◌∙◌, refl}
+use Rattle.std.proofs.Common.{refl}
 use Rattle.frontier_core.proofs.Lists.{if_ok-both}
 use Rattle.frontier_core.proofs.Taking.{finish_taken, may_finish}
 use Rattle.frontier_core.proofs.memo.Memo.take_finish.Goals as goal
