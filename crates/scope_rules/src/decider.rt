@@ -30,7 +30,8 @@ impl<'a> Model for Decider<'a> {
 }
 
 impl Scope {
-    /// What decides on many candidates by this scope. Nothing is compiled here.
+    /// What decides on many candidates by this scope. Nothing is compiled here. It fails for want of
+    /// memory alone.
     pub fn decider(&self, alloc: Global) -> Result<Decider<'_>, NoMemory>
         ensures { IfOk result (λ own. own ≡ self.now) }
     {
@@ -52,7 +53,8 @@ impl Decider<'_> {
     }
 }
 
-/// What a scope decides on one candidate. Where there are many, a `Decider` spares the making of matchers for each.
+/// What a scope decides on one candidate. Where there are many, a `Decider` spares the making of matchers for each. It
+/// fails for want of memory alone.
 pub fn decide(alloc: Global, scope: &Scope, candidate: &Candidate) -> Result<Decision, NoMemory>
     ensures { IfOk result (λ d. d ≡ decision scope.now.rules scope.now.seeds candidate.now.uri candidate.now.surt candidate.now.path) }
 {

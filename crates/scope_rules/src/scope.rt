@@ -82,7 +82,7 @@ impl Scope {
     }
 }
 
-/// What a scope without patterns decides. It takes no memory.
+/// What a scope without patterns decides on a candidate. It takes no memory.
 pub fn decide_plain(scope: &Scope, candidate: &Candidate) -> Decision
     requires { has_patterns scope.now.rules ≡ false }
     ensures { result ≡ decision scope.now.rules scope.now.seeds candidate.now.uri candidate.now.surt candidate.now.path }
