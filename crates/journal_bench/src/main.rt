@@ -1,6 +1,6 @@
-//! Times the journal: `journal_bench FINISHES ADDS` makes the lines of so many finishes with so many adds each, reads them
-//! and spells the events again, and prints how many events and bytes came of it. With a third argument it prints the
-//! megabytes of text a second of processor time each way, too.
+//! Times the journal: `journal_bench FINISHES ADDS OTHERS` makes the lines of so many finishes with so many adds each, of
+//! which so many are on other hosts than their page, reads them and spells the events again, and prints how many events and
+//! bytes came of it. With a fourth argument it prints the megabytes of text a second of processor time each way, too.
 #![tactic(auto)]
 
 use anyhow::{Context, bail};
@@ -12,7 +12,8 @@ use std::env;
 use std::time::{CpuClock, Duration};
 
 /// What stands on each line of a finish, behind its item.
-const END: &str = "1700000000000 0 2 200 1700000000000+7 4500 text/html sha1:3I42H3S6NNFQ2MSVX7XZKYAYSCX5QBYJ 0:386:1590 -";
+const END: &str =
+    "1700000000000 0 2 200 1700000000000+7 4500 text/html sha1:3I42H3S6NNFQ2MSVX7XZKYAYSCX5QBYJ 0:386:1590 -";
 
 /// The host of a number, one of eight.
 fn host_of(number: u32) -> &'static str {
@@ -28,22 +29,43 @@ fn host_of(number: u32) -> &'static str {
     }
 }
 
-/// The lines of a finish, which adds items of its page's host.
-fn push_finish(alloc: Global, text: &mut String, number: u32, adds: u32) -> Result<(), AllocError> {
-    let host = host_of(number);
-    text.push_str(format!(in alloc; "Fs http://{host}/p{number} L http://{host}/ {END}\n")?.as_str())?;
-    for add in 0..adds {
-        let line = format!(in alloc; "F+ http://{host}/p{number}/{add} LL http://{host}/p{number}\n")?;
-        text.push_str(line.as_str())?;
+/// How many finishes there are, how many adds each has, and how many of these are on other hosts.
+#[derive(Clone, Copy)]
+struct Counts {
+    finishes: u32,
+    adds: u32,
+    others: u32,
+}
+
+/// The lines of a finish.
+fn push_finish(
+    alloc: Global,
+    text: &mut String,
+    number: u32,
+    counts: Counts,
+) -> Result<(), AllocError> {
+    let page = host_of(number);
+    text.push_str(format!(in alloc;
+        "Fs http://{page}/p{number} L http://{page}/ {END}\n"
+    )?.as_str())?;
+    for add in 0..counts.adds {
+        let host = if add < counts.others {
+            host_of(number.wrapping_add(1).wrapping_add(add % 7))
+        } else {
+            page
+        };
+        text.push_str(format!(in alloc;
+            "F+ http://{host}/p{number}/{add} LL http://{page}/p{number}\n"
+        )?.as_str())?;
     }
     Ok(())
 }
 
 /// The lines of finishes.
-fn lines(alloc: Global, finishes: u32, adds: u32) -> Result<String, AllocError> {
+fn lines(alloc: Global, counts: Counts) -> Result<String, AllocError> {
     let mut text = String::new(alloc);
-    for number in 0..finishes {
-        push_finish(alloc, &mut text, number, adds)?;
+    for number in 0..counts.finishes {
+        push_finish(alloc, &mut text, number, counts)?;
     }
     Ok(text)
 }
@@ -69,9 +91,16 @@ fn main(rt: HostRuntime) -> anyhow::Result<()> {
     let alloc = rt.alloc();
     let mut args = env::args(&rt)?;
     args.next();
-    let finishes: u32 = args.next().context("how many finishes")?.as_str().parse()?;
-    let adds: u32 = args.next().context("how many adds each")?.as_str().parse()?;
-    let text = lines(alloc, finishes, adds)?;
+    let counts = Counts {
+        finishes: args.next().context("how many finishes")?.as_str().parse()?,
+        adds: args.next().context("how many adds each")?.as_str().parse()?,
+        others: args
+            .next()
+            .context("how many on other hosts")?
+            .as_str()
+            .parse()?,
+    };
+    let text = lines(alloc, counts)?;
     if text.len() > 4_294_967_295 {
         bail!("too much text");
     }
@@ -91,7 +120,11 @@ fn main(rt: HostRuntime) -> anyhow::Result<()> {
     }
     println!(rt; "{} events, {} bytes", events.as_slice().len(), text.len())?;
     if args.next().is_some() {
-        println!(rt; "read at {} MB a second, spelled at {}", rate(text.len(), read), rate(text.len(), wrote))?;
+        println!(rt;
+            "read at {} MB a second, spelled at {}",
+            rate(text.len(), read),
+            rate(text.len(), wrote)
+        )?;
     }
     Ok(())
 }

@@ -1,6 +1,6 @@
 -- Where a field of what was recorded is not read, nothing has these fields.
-use Rattle.std.proofs.Common.{◌≡◌, ℕ, ◌<◌, ◌^◌, List, [], ◌∷◌, ◌++◌, Option, Some, None, Err, refl, sym, ap, subst, ◌∙◌, arith}
-use Rattle.std.specs.Prelude.{codes, decimal, IfSome, IsTrue}
+use Rattle.std.proofs.Common.{◌≡◌, ℕ, List, ◌∷◌, ◌++◌, Option, Some, None, Err, refl, sym, ap, subst, ◌∙◌, arith}
+use Rattle.std.specs.Prelude.{codes, IfSome, IsTrue}
 use Rattle.crawl_kinds.specs.Text.{is_text, is_visible}
 use Rattle.crawl_kinds.specs.declared.event.Body.{Body}
 use Rattle.journal_spec.specs.Fields.{body_fields}

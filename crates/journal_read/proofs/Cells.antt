@@ -1,6 +1,6 @@
 -- Texts between marks, and texts joined by marks.
-use Rattle.std.proofs.Common.{◌≡◌, ℕ, ◌+◌, ◌-◌, ◌<◌, ◌≤◌, Bool, true, false, cond, not, ◌&&◌, eqb, ltb, leb, List, [], ◌∷◌, ◌++◌, length, take, drop, get_or, All, Some, None, refl, sym, ap, ◌∙◌, ⊎_elim, add-one, drop-cons, arith, rules}
-use Rattle.std.specs.List.{AllByRecursion, join_with_byte, list_all, position, position_or_len, before_first, after_first}
+use Rattle.std.proofs.Common.{◌≡◌, ℕ, ◌+◌, ◌-◌, ◌<◌, ◌≤◌, Bool, true, false, eqb, ltb, List, [], ◌∷◌, ◌++◌, length, take, drop, get_or, All, Some, None, refl, sym, ap, ◌∙◌, ⊎_elim, add-one, drop-cons, arith}
+use Rattle.std.specs.List.{AllByRecursion, join_with_byte, list_all, position, position_or_len}
 use Rattle.std.proofs.lemmas.Bool.{eqb-true, cases_Bool, both_ways, and_parts, ltb-true, ltb-false, cond-true, cond-false}
 use Rattle.std.proofs.lemmas.Bool.Decides.{nat_tests}
 use Rattle.std.proofs.lemmas.Grind.{common_steps}

@@ -1,11 +1,10 @@
 -- Texts that are codes: a number, or a minus and a number that is not 0.
-use Rattle.std.proofs.Common.{◌≡◌, ◌≢◌, ◌+◌, ◌-◌, ◌≤◌, ◌<◌, ◌^◌, ℕ, ℤ, pos, negsuc, suc, List, [], ◌∷◌, Option, Some, None, get_or, take, drop, length, refl, sym, ap, ◌∙◌, arith}
+use Rattle.std.proofs.Common.{◌≡◌, ◌≢◌, ◌-◌, ◌<◌, ◌^◌, ℕ, ℤ, pos, negsuc, suc, List, [], ◌∷◌, get_or, take, drop, length, sym, ap, ◌∙◌, arith}
 use Rattle.std.specs.Prelude.{IsTrue, decimal}
 use Rattle.std.specs.Fmt.{signed_decimal}
 use Rattle.std.proofs.lemmas.Bool.{leb-true, le-leb}
 use Rattle.std.proofs.lemmas.Str.Parse.{digit_at}
 use Rattle.std.proofs.lemmas.Fmt.{decimal_nonempty, digits_decimal, decimal_injective}
-use Rattle.journal_read.specs.Reading.{Finds}
 use Rattle.journal_read.specs.Lines.{is_code, IsPlainCode, IsMinusCode}
 use Rattle.journal_read.proofs.Numbers.{own}
 use Rattle.journal_read.proofs.Cells.{behind}

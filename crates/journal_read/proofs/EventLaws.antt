@@ -8,8 +8,7 @@ use Rattle.crawl_kinds.specs.declared.event.Event.TheVariants.{Session as Sessio
 use Rattle.journal_spec.specs.Journal.{spelling, seed_line, add_line, seeds_line, session_line, emit_line, finish_line}
 use Rattle.journal_valid.specs.Items.{IsAddress, IsAdd}
 use Rattle.journal_valid.specs.Valid.{IsEvent, IsSpelled}
-use Rattle.journal_read.specs.declared.line.Line.{Line}
-use Rattle.journal_read.specs.declared.line.Line.TheVariants.{Session, Seeds, Seed, Add, Emit, Finish}
+use Rattle.journal_read.specs.declared.line.Line.TheVariants.{Seed, Add}
 use Rattle.journal_read.specs.Lines.{text_of, IsLine, lines_of}
 use Rattle.journal_read.proofs.Visible.{all_append}
 use Rattle.journal_read.proofs.LineLaws.{lines_same}

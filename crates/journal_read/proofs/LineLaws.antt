@@ -1,7 +1,6 @@
 -- Lines and their texts: one text, one line; and one text of lines, one list of lines.
-use Rattle.std.proofs.Common.{◌≡◌, ◌⊎◌, ⊎_elim, ℕ, ℤ, ◌+◌, ◌<◌, ◌≤◌, ◌^◌, Bool, true, false, eqb, List, [], ◌∷◌, ◌++◌, length, get_or, drop, map, Option, Some, None, refl, sym, ap, subst, ◌∙◌, arith, append_assoc, append-nil, length-append}
-use Rattle.std.specs.Prelude.{decimal, codes, flat_map}
-use Rattle.std.specs.Fmt.{signed_decimal}
+use Rattle.std.proofs.Common.{◌≡◌, ℕ, ◌<◌, ◌≤◌, false, eqb, List, [], ◌∷◌, ◌++◌, length, get_or, drop, Some, refl, sym, ap, ◌∙◌, arith, append_assoc, length-append}
+use Rattle.std.specs.Prelude.{flat_map}
 use Rattle.std.specs.List.{AllByRecursion, join_with_byte}
 use Rattle.std.proofs.lemmas.Fmt.{decimal_injective, signed_decimal_injective}
 use Rattle.std.proofs.lemmas.List.Splits.{slice_split_at, join_with_byte-slice_split}
@@ -10,16 +9,14 @@ use Rattle.crawl_kinds.specs.declared.event.Verdict.TheVariants.{Allowed, Preclu
 use Rattle.crawl_kinds.specs.declared.event.Outcome.{Outcome}
 use Rattle.crawl_kinds.specs.declared.event.Outcome.TheVariants.{Success, Failure, Disregard, Retry}
 use Rattle.crawl_kinds.specs.declared.event.End.{End}
-use Rattle.crawl_kinds.specs.declared.item.Item.{Item}
-use Rattle.journal_spec.specs.Fields.{path_field, item_fields, ticket_fields, verdict_field, outcome_tag, body_fields, notes_field, end_fields}
-use Rattle.journal_spec.specs.Journal.{line}
+use Rattle.journal_spec.specs.Fields.{verdict_field, outcome_tag, notes_field, end_fields}
 use Rattle.journal_valid.specs.Ends.{IsEnd, outcome_of}
 use Rattle.journal_read.specs.declared.line.Line.{Line}
 use Rattle.journal_read.specs.declared.line.Line.TheVariants.{Session, Seeds, Seed, Add, Emit, Finish}
 use Rattle.journal_read.specs.Reading.{cells, AreVisible}
-use Rattle.journal_read.specs.Lines.{fields_of, text_of, IsLine, is_code}
+use Rattle.journal_read.specs.Lines.{fields_of, text_of, IsLine}
 use Rattle.journal_read.proofs.Cells.{IsFree, joined_cells, free_from_visible}
-use Rattle.journal_read.proofs.Visible.{fields_visible, visible_append, code_in}
+use Rattle.journal_read.proofs.Visible.{fields_visible, code_in}
 use Rattle.journal_read.proofs.Same.{at, item_same, fetch_same, body_same}
 use Rattle.std.proofs.lemmas.List.Elements.{All-nil, All-cons}
 use Rattle.crawl_kinds.specs.Text.{is_visible}

@@ -1,11 +1,10 @@
 -- How far a text of lines is read.
-use Rattle.std.proofs.Common.{◌≡◌, ◌≢◌, ℕ, ◌+◌, ◌<◌, ◌≤◌, ◌^◌, eqb, List, [], ◌∷◌, ◌++◌, length, Ok, Err, refl, sym, ap, subst, ◌∙◌, arith, append_assoc, append-nil, length-append}
+use Rattle.std.proofs.Common.{◌≡◌, ◌≢◌, ℕ, ◌+◌, ◌<◌, ◌≤◌, eqb, List, [], ◌∷◌, ◌++◌, length, Ok, Err, refl, sym, ap, subst, ◌∙◌, arith, append_assoc, append-nil, length-append}
 use Rattle.std.specs.Prelude.{count_by, cond, flat_map}
-use Rattle.std.specs.List.{AllByRecursion}
 use Rattle.std.proofs.lemmas.List.Splits.{length-slice_split}
 use Rattle.std.proofs.lemmas.List.Sums.{count_by-le-length, sum_by-append}
 use Rattle.crawl_kinds.specs.declared.event.Event.{Event}
-use Rattle.journal_valid.specs.Valid.{IsEvent, IsSpelled}
+use Rattle.journal_valid.specs.Valid.{IsSpelled}
 use Rattle.journal_read.specs.declared.fault.Misread.TheVariants.{Bad}
 use Rattle.journal_read.specs.Faults.{IsBadLine, first_line}
 use Rattle.journal_read.specs.Joining.{Continues}

@@ -1,10 +1,10 @@
 -- Notes determine what they are on.
-use Rattle.std.proofs.Common.{◌≡◌, ◌⊎◌, ⊎_elim, ℕ, ℤ, pos, negsuc, suc, ◌+◌, ◌<◌, ◌≤◌, ◌^◌, Bool, true, false, cond, not, eqb, ltb, List, [], ◌∷◌, ◌++◌, length, get_or, drop, append_assoc, inl, inr, Option, Some, None, All, refl, sym, ap, subst, ◌∙◌, arith}
-use Rattle.std.specs.Prelude.{decimal, codes, IfSome, IsTrue, nat_lt, if◌then◌else◌}
+use Rattle.std.proofs.Common.{◌≡◌, ◌⊎◌, ⊎_elim, ℕ, ℤ, pos, negsuc, suc, ◌<◌, ◌≤◌, ◌^◌, Bool, true, false, not, eqb, List, [], ◌∷◌, ◌++◌, length, get_or, drop, append_assoc, inl, inr, Option, Some, None, refl, sym, ap, ◌∙◌, arith}
+use Rattle.std.specs.Prelude.{decimal, codes, nat_lt, if◌then◌else◌}
 use Rattle.std.specs.Fmt.{signed_decimal}
-use Rattle.std.specs.List.{AllByRecursion, list_all, join_with_byte}
+use Rattle.std.specs.List.{AllByRecursion, list_all}
 use Rattle.std.specs.Ordering.{int_eq}
-use Rattle.std.proofs.lemmas.Bool.{false≢true, and_parts, not-true, cases_Bool, ne_eqb, ltb-true, ltb-false, leb-true, cond-true, cond-false}
+use Rattle.std.proofs.lemmas.Bool.{false≢true, and_parts, not-true, cases_Bool, ltb-true, leb-true}
 use Rattle.std.proofs.lemmas.Bool.Decides.{Decides-int_eq}
 use Rattle.std.proofs.lemmas.Fmt.{decimal_injective, signed_decimal_injective}
 use Rattle.std.proofs.lemmas.List.Elements.{All-nil, All-cons}
@@ -13,11 +13,11 @@ use Rattle.crawl_kinds.specs.declared.event.Cut.{Cut}
 use Rattle.crawl_kinds.specs.declared.event.Cut.TheVariants.{Length, Disconnect}
 use Rattle.crawl_kinds.specs.declared.event.Notes.{Notes}
 use Rattle.journal_spec.specs.Fields.{cut_notes, tries_notes, cause_notes, joined_notes, notes_field}
-use Rattle.journal_valid.specs.Ends.{IsNotes, is_among, link_faults}
+use Rattle.journal_valid.specs.Ends.{IsNotes}
 use Rattle.journal_read.specs.Reading.{cells}
 use Rattle.journal_read.specs.Lines.{is_code}
-use Rattle.journal_read.proofs.Visible.{among, cause_code, all_append}
-use Rattle.journal_read.proofs.Fetches.{number_free, number_free_above}
+use Rattle.journal_read.proofs.Visible.{cause_code, all_append}
+use Rattle.journal_read.proofs.Fetches.{number_free}
 use Rattle.journal_read.proofs.Cells.{IsFree, joined_cells}
 
 pub free_append : (mark : ℕ) (a b : List ℕ) → IsFree mark a → IsFree mark b → IsFree mark (a ++ b)

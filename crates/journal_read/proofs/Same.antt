@@ -1,20 +1,19 @@
 -- Fields determine what they name: items, tickets, fetches, places, bodies and notes.
-use Rattle.std.proofs.Common.{◌≡◌, ◌⊎◌, ⊎_elim, ℕ, ℤ, pos, negsuc, suc, ◌+◌, ◌<◌, ◌≤◌, ◌^◌, Bool, true, false, cond, List, [], ◌∷◌, ◌++◌, length, get_or, Option, Some, None, Ok, Err, refl, sym, ap, subst, ◌∙◌, arith, append_assoc}
-use Rattle.std.specs.Prelude.{decimal, codes, unwrap_or, IfSome, IsTrue, is_ok}
-use Rattle.std.specs.List.{list_all, join_with_byte}
+use Rattle.std.proofs.Common.{◌≡◌, ℕ, ◌<◌, ◌^◌, true, List, [], ◌∷◌, ◌++◌, get_or, Option, Some, None, refl, sym, ap, subst, ◌∙◌, arith}
+use Rattle.std.specs.Prelude.{decimal, codes, unwrap_or, IfSome, is_ok}
+use Rattle.std.specs.List.{list_all}
 use Rattle.std.proofs.lemmas.Bool.{false≢true, both_ways, and_parts}
 use Rattle.std.proofs.lemmas.Fmt.{decimal_injective}
 use Rattle.url.proofs.OnLiterals.{url_on_literals}
 use Rattle.uri_spec.specs.Surt.{class_text}
-use Rattle.crawl_kinds.specs.Text.{is_visible, is_hop, is_text}
+use Rattle.crawl_kinds.specs.Text.{is_hop, is_text}
 use Rattle.crawl_kinds.specs.declared.event.Fetch.{Fetch}
 use Rattle.crawl_kinds.specs.declared.event.Spot.{Spot}
 use Rattle.crawl_kinds.specs.declared.event.Body.{Body}
 use Rattle.crawl_kinds.specs.declared.item.Item.{Item}
-use Rattle.journal_spec.specs.Fields.{path_field, item_fields, ticket_fields, fetch_field, spot_field, body_fields, absent}
+use Rattle.journal_spec.specs.Fields.{path_field, fetch_field, spot_field, body_fields, absent}
 use Rattle.journal_valid.specs.Items.{IsAddress, IsItem, key_of, rank_of}
 use Rattle.journal_valid.specs.Ends.{IsFetch, IsBody}
-use Rattle.journal_valid.specs.Valid.{IsTicket}
 use Rattle.journal_read.specs.Reading.{cells}
 use Rattle.journal_read.specs.Ends.{IsSpot}
 use Rattle.journal_read.proofs.Texts.{all_from_text}

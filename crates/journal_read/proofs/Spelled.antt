@@ -1,6 +1,6 @@
 -- Texts of events, line by line.
-use Rattle.std.proofs.Common.{◌≡◌, ◌≢◌, ⊎_elim, ℕ, ◌+◌, ◌<◌, ◌≤◌, ◌^◌, Bool, true, false, cond, eqb, List, [], ◌∷◌, ◌++◌, length, map, Result, Ok, Err, refl, sym, ap, subst, ◌∙◌, arith, append_assoc, append-nil, length-append}
-use Rattle.std.specs.Prelude.{count_by, flat_map}
+use Rattle.std.proofs.Common.{◌≡◌, ◌≢◌, ⊎_elim, ℕ, false, eqb, List, [], ◌∷◌, ◌++◌, length, map, Result, Ok, Err, refl, sym, ap, subst, ◌∙◌, arith, append_assoc, append-nil, length-append}
+use Rattle.std.specs.Prelude.{flat_map}
 use Rattle.std.specs.List.{AllByRecursion, join_with_byte, onto_first}
 use Rattle.std.proofs.lemmas.Bool.{cases_Bool, eqb-true, cond-true, cond-false}
 use Rattle.std.proofs.lemmas.Grind.{flat_map-append}
@@ -14,7 +14,7 @@ use Rattle.journal_read.specs.declared.fault.Misread.{Misread}
 use Rattle.journal_read.specs.declared.fault.Misread.TheVariants.{Bad, NoMemory}
 use Rattle.journal_read.specs.declared.line.Line.{Line}
 use Rattle.journal_read.specs.declared.line.Line.TheVariants.{Seed, Add}
-use Rattle.journal_read.specs.Faults.{IsBadLine, first_line}
+use Rattle.journal_read.specs.Faults.{first_line}
 use Rattle.journal_read.specs.Joining.{Continues, Joins}
 use Rattle.journal_read.specs.Lines.{IsLine, IsLineOf, fields_of, lines_of, text_of}
 use Rattle.journal_read.specs.Reading.{cells}

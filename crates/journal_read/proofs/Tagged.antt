@@ -1,5 +1,5 @@
 -- What stands behind a tag is that of one kind of line.
-use Rattle.std.proofs.Common.{◌≡◌, ◌≢◌, ℕ, ◌+◌, ◌<◌, ◌≤◌, Bool, eqb, cond, List, [], ◌∷◌, ◌++◌, length, get_or, drop, Option, Some, None, Result, Ok, Err, refl, sym, ap, subst, ◌∙◌, arith, append-nil, length-append}
+use Rattle.std.proofs.Common.{◌≡◌, ◌≢◌, ℕ, ◌≤◌, eqb, cond, List, [], ◌∷◌, ◌++◌, length, get_or, drop, Option, Some, None, Err, refl, sym, ap, subst, ◌∙◌, arith, append-nil, length-append}
 use Rattle.std.specs.Prelude.{codes, decimal, IfSome}
 use Rattle.std.specs.List.{join_with_byte}
 use Rattle.std.proofs.lemmas.List.Splits.{join_with_byte-slice_split}
@@ -20,7 +20,7 @@ use Rattle.journal_read.specs.declared.line.Line.TheVariants.{Session, Seeds, Se
 use Rattle.journal_read.specs.declared.read_line.Opening.{Opening}
 use Rattle.journal_read.specs.declared.read_line.Emission.{Emission}
 use Rattle.journal_read.specs.declared.read_line.Finishing.{Finishing}
-use Rattle.journal_read.specs.Lines.{IsLine, IsLineOf, IsTagged, fields_of, rest_of, tag_of}
+use Rattle.journal_read.specs.Lines.{IsLineOf, IsTagged, fields_of, rest_of, tag_of}
 use Rattle.journal_read.specs.Reading.{Reads, Takes, cells}
 use Rattle.journal_read.proofs.Same.{at, item_same}
 use Rattle.journal_read.proofs.LineLaws.{line_cells}

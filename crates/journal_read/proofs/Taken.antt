@@ -1,5 +1,5 @@
 -- What is read of some fields is what these fields are those of.
-use Rattle.std.proofs.Common.{◌≡◌, ℕ, List, [], ◌∷◌, ◌++◌, Option, Some, None, Result, Ok, Err, refl, sym, ap, subst, ◌∙◌}
+use Rattle.std.proofs.Common.{◌≡◌, ℕ, List, ◌∷◌, ◌++◌, Option, Some, None, Result, Ok, Err, refl, sym, ap, subst, ◌∙◌}
 use Rattle.std.specs.Prelude.{IfSome, IsTrue, unwrap_or}
 use Rattle.crawl_kinds.specs.Text.{is_text, is_hop}
 use Rattle.crawl_kinds.specs.declared.item.Item.{Item}

@@ -1,6 +1,6 @@
 -- Visible texts, and addresses that are written as they are.
-use Rattle.std.proofs.Common.{◌≡◌, ℕ, ◌+◌, ◌<◌, ◌≤◌, Bool, true, false, cond, not, ◌&&◌, ltb, leb, eqb, List, [], ◌∷◌, ◌++◌, length, get_or, Option, Some, None, Ok, Err, refl, sym, ap, ◌∙◌, ⊎_elim, arith, position}
-use Rattle.std.specs.Prelude.{IsTrue, is_none, option_map}
+use Rattle.std.proofs.Common.{◌≡◌, ℕ, Bool, true, cond, not, ltb, leb, List, [], ◌∷◌, length, Option, Some, None, refl, sym, ap, ◌∙◌, ⊎_elim, arith, position}
+use Rattle.std.specs.Prelude.{is_none, option_map}
 use Rattle.crawl_kinds.specs.declared.text.TextFault.TheVariants.{TooLong, BadByte}
 use Rattle.std.specs.List.{list_all, AllByRecursion}
 use Rattle.std.proofs.lemmas.List.Sums.{fails_before_first}
@@ -8,16 +8,9 @@ use Rattle.std.proofs.lemmas.List.Elements.{recursion_from_All}
 use Rattle.journal_read.proofs.Cells.{absent}
 use Rattle.std.specs.Str.{IsUtf8, IsAscii}
 use Rattle.std.proofs.lemmas.Bool.{cases_Bool, not-false, false≢true, and_parts, and_from, leb-true}
-use Rattle.std.proofs.lemmas.Bool.Decides.{nat_tests}
 use Rattle.std.proofs.lemmas.Str.{IsUtf8-from_ascii}
 use Rattle.std.proofs.lemmas.Str.Ascii.{IsAscii-nil, IsAscii-cons}
-use Rattle.crawl_kinds.specs.Text.{is_visible, is_text, text_fault}
-use Rattle.crawl_kinds.specs.Address.{is_web, without_fragment, most_uri, most_head, IsUri}
-use Rattle.url.specs.declared.slicing.Position.TheVariants.{BeforePath}
-use Rattle.url.specs.Parser.{parse_url}
-use Rattle.url.specs.Parts.{serialize, offset}
-use Rattle.uri_form.specs.Fault.{address_in, most_text}
-use Rattle.uri_form.proofs.AddressLaws.{reads_as_itself}
+use Rattle.crawl_kinds.specs.Text.{is_visible, is_text}
 use Rattle.journal_read.specs.Reading.{AreVisible}
 
 ascii : (text : List ℕ) → AreVisible text → IsAscii text

@@ -1,6 +1,6 @@
 -- Every field of an allowed line is visible.
-use Rattle.std.proofs.Common.{◌≡◌, ◌⊎◌, ⊎_elim, inl, inr, subst, cond, ℕ, ℤ, pos, negsuc, suc, ◌+◌, ◌<◌, ◌≤◌, ◌^◌, Bool, true, false, ◌&&◌, leb, eqb, List, [], ◌∷◌, ◌++◌, length, get_or, Option, Some, None, refl, sym, ap, ◌∙◌, arith}
-use Rattle.std.specs.Prelude.{decimal, codes, unwrap_or, IfSome, IsTrue, nat_lt, if◌then◌else◌}
+use Rattle.std.proofs.Common.{◌≡◌, ◌⊎◌, ⊎_elim, inl, inr, subst, cond, ℕ, ℤ, pos, negsuc, suc, ◌<◌, ◌^◌, Bool, true, false, List, [], ◌∷◌, ◌++◌, Option, Some, None, refl, sym, arith}
+use Rattle.std.specs.Prelude.{decimal, codes, unwrap_or, IfSome, nat_lt, if◌then◌else◌}
 use Rattle.std.specs.Fmt.{signed_decimal}
 use Rattle.std.specs.List.{AllByRecursion, list_all, join_with_byte}
 use Rattle.std.specs.Int.{IsInRange}
@@ -22,10 +22,10 @@ use Rattle.crawl_kinds.specs.declared.event.Body.{Body}
 use Rattle.crawl_kinds.specs.declared.event.Notes.{Notes}
 use Rattle.crawl_kinds.specs.declared.event.End.{End}
 use Rattle.crawl_kinds.specs.declared.item.Item.{Item}
-use Rattle.journal_spec.specs.Fields.{path_field, item_fields, ticket_fields, verdict_field, outcome_tag, fetch_field, spot_field, body_fields, cut_notes, tries_notes, cause_notes, joined_notes, notes_field, end_fields, absent}
-use Rattle.journal_valid.specs.Items.{IsAddress, IsItem, IsAdd}
+use Rattle.journal_spec.specs.Fields.{path_field, item_fields, ticket_fields, verdict_field, outcome_tag, fetch_field, body_fields, cut_notes, tries_notes, cause_notes, joined_notes, notes_field, end_fields, absent}
+use Rattle.journal_valid.specs.Items.{IsAddress, IsItem}
 use Rattle.journal_valid.specs.Ends.{IsFetch, IsBody, IsNotes, IsEnd, is_among, is_status, link_faults, retry_codes, failure_codes, disregard_codes, outcome_of}
-use Rattle.journal_valid.specs.Valid.{IsSession, IsTicket}
+use Rattle.journal_valid.specs.Valid.{IsTicket}
 use Rattle.journal_read.specs.declared.line.Line.{Line}
 use Rattle.journal_read.specs.declared.line.Line.TheVariants.{Session, Seeds, Seed, Add, Emit, Finish}
 use Rattle.journal_read.specs.Reading.{AreVisible}

@@ -2,7 +2,7 @@
 --     fields_of l, IsLine l      the fields of a line, and whether it is allowed
 --     IsTagged tag l, IsLineOf text l      an allowed line with this tag, and the one that this text spells, but for its end
 --     lines_of e      the lines of an event
-use Rattle.std.specs.Prelude.{◌≡◌, ℕ, ℤ, pos, negsuc, suc, ◌<◌, ◌≤◌, ◌^◌, Bool, nat_le, List, [], ◌∷◌, ◌++◌, map, codes}
+use Rattle.std.specs.Prelude.{◌≡◌, ℕ, ℤ, pos, negsuc, suc, ◌≤◌, Bool, nat_le, List, [], ◌∷◌, ◌++◌, map, codes}
 use Rattle.std.specs.Fmt.{decimal}
 use Rattle.std.specs.List.{join_with_byte}
 use Rattle.crawl_kinds.specs.declared.event.TheConstants.{MAX_MS}

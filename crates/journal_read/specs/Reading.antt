@@ -2,7 +2,7 @@
 --     Finds is option, Reads is result      the one value that is meant, or none where there is none
 --     cells mark text, left parts      the cells between marks, and those that are not read yet
 --     Takes fields is result old new      the value whose fields stand in front, and what is left behind them
-use Rattle.std.specs.Prelude.{◌≡◌, ◌≢◌, ℕ, ◌==◌, Bool, true, false, List, [], ◌∷◌, ◌++◌, Option, Some, None, Result, Ok, Err, if◌then◌else◌}
+use Rattle.std.specs.Prelude.{◌≡◌, ◌≢◌, ℕ, ◌==◌, true, List, [], ◌∷◌, ◌++◌, Option, Some, None, Result, Ok, Err, if◌then◌else◌}
 use Rattle.std.specs.List.{slice_split, list_all}
 use Rattle.crawl_kinds.specs.Text.{is_visible}
 use Rattle.journal_read.specs.declared.fault.Misread.{Misread}

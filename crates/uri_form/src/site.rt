@@ -98,6 +98,16 @@ fn is_plain_path(path: &[u8]) -> bool
     }
 }
 
+/// Two texts, one behind the other.
+fn joined(alloc: Global, front: &str, back: &str) -> Result<String, NoMemory>
+    ensures { IfOk result (λ text. string_bytes text ≡ front.now ++ back.now) }
+{
+    let mut text = String::with_capacity(alloc, front.len() + back.len())?;
+    text.push_str(front)?;
+    text.push_str(back)?;
+    Ok(text)
+}
+
 /// The text of the key of an address of a site with a plain path.
 fn plain_key_text(alloc: Global, site: &Site, path: &str) -> Result<String, NoMemory>
     requires site { IsSite site.now }
@@ -109,9 +119,7 @@ fn plain_key_text(alloc: Global, site: &Site, path: &str) -> Result<String, NoMe
         return Ok(format!(in alloc; "robots0:{}", site.class)?);
     }
     let path = path.to_ascii_lowercase(alloc)?;
-    let mut text = site.key_head.clone()?;
-    text.push_str(path.as_str())?;
-    Ok(text)
+    joined(alloc, site.key_head.as_str(), path.as_str())
 }
 
 /// An address of a site with a plain path, with its names.

@@ -1,4 +1,6 @@
 // Tables of what each call answers, from the URL Standard and the rules for keys, classes and SURT forms.
+ghost use Rattle.uri_form.specs.Named.{IsSite};
+
 use crate::*;
 use crawl_kinds::TextFault;
 use std::alloc::Global;
@@ -288,7 +290,9 @@ fn seeds_are_refused_by_their_first_fault(rt: HostRuntime) -> Result<(), Fail> {
 }
 
 // Whether a text is read as an address with the names that it has.
-fn is_named(rt: &impl Abort, alloc: Global, site: &Site, text: &str) -> Result<bool, Fail> {
+fn is_named(rt: &impl Abort, alloc: Global, site: &Site, text: &str) -> Result<bool, Fail>
+    requires { IsSite site.now }
+{
     let (Some(one), Some(other)) = (named_uri(alloc, text)?, named_on(alloc, site, text)?) else {
         return Ok(false);
     };

@@ -1,4 +1,4 @@
-use Rattle.std.proofs.Common.{◌≡◌, w32, to_z, of_z, refl}
+use Rattle.std.proofs.Common.{w32, to_z, of_z, refl}
 use Rattle.std.proofs.lemmas.Int.{to_z-of_z}
 use Rattle.journal_read.proofs.Suited.{end_made, no_end}
 use Rattle.journal_read.proofs.end.end_of.Goals as goal

@@ -1,4 +1,4 @@
-use Rattle.std.proofs.Common.{◌≡◌, ◌<◌, ◌+◌, take}
+use Rattle.std.proofs.Common.{◌≡◌, ◌<◌, take}
 use Rattle.std.specs.Prelude.{IfSome}
 use Rattle.journal_valid.specs.Items.{robots_redirects}
 use Rattle.journal_read.proofs.item.robots_redirects.Given as goal

@@ -1,8 +1,8 @@
 -- Notes are taken one by one.
-use Rattle.std.proofs.Common.{◌≡◌, List, ℕ, Option, subst, sym, ◌∙◌, rules, arith, w32, to_z, of_z}
+use Rattle.std.proofs.Common.{List, ℕ, subst, ◌∙◌, arith, w32, to_z, of_z}
 use Rattle.std.proofs.lemmas.Int.{to_z-of_z}
 use Rattle.crawl_kinds.specs.declared.event.Cut.{Cut}
-use Rattle.journal_read.specs.Reading.{MayTake, cells, left}
+use Rattle.journal_read.specs.Reading.{MayTake, left}
 use Rattle.journal_read.specs.Ends.{cut_note}
 use Rattle.journal_read.proofs.Noted.{notes_end, notes_read}
 use Rattle.journal_read.proofs.notes.notes_of.Goals as goal

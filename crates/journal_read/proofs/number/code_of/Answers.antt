@@ -1,5 +1,5 @@
 -- A code is a number, or a number that is not 0 behind a minus.
-use Rattle.std.proofs.Common.{◌≡◌, ◌<◌, length, arith, sym}
+use Rattle.std.proofs.Common.{length, arith, sym}
 use Rattle.std.proofs.lemmas.Bool.{eqb-true, eqb-false}
 use Rattle.journal_read.specs.Lines.{IsPlainCode, IsMinusCode}
 use Rattle.std.proofs.Common.{take, drop, ◌-◌}

@@ -1,5 +1,5 @@
 -- A number in decimal digits is what is parsed, and nothing else is.
-use Rattle.std.proofs.Common.{◌≡◌, ◌≤◌, ℕ, length, get_or, arith}
+use Rattle.std.proofs.Common.{◌≡◌, ◌≤◌, length, get_or, arith}
 use Rattle.journal_read.proofs.Numbers.{no_number_empty, no_number_plus, no_number_zero, number_is_utf8, number_parses, parsed_number}
 use Rattle.journal_read.proofs.number.number_of.Goals as goal
 use Rattle.journal_read.proofs.number.number_of.Goals.{else-first-eq48-via-then-first-eq48+else-text-gt1, else-first-eq48-via-else-first-eq48}

@@ -1,4 +1,4 @@
-use Rattle.std.proofs.Common.{sym, ◌∙◌, ap, arith}
+use Rattle.std.proofs.Common.{◌∙◌, ap, arith}
 use Rattle.std.proofs.lemmas.Result.{err_from_is_err_and}
 use Rattle.journal_spec.specs.Fields.{item_fields}
 use Rattle.journal_valid.specs.Items.{IsAdd, IsItem, robots_redirects}

@@ -1,5 +1,4 @@
 -- An address is visible, and reads as itself.
-use Rattle.std.specs.List.{list_all}
 use Rattle.crawl_kinds.specs.Text.{is_visible}
 use Rattle.journal_read.proofs.Texts.{all_from_text}
 use Rattle.journal_read.proofs.text.address_of.Goals as goal

@@ -1,5 +1,4 @@
 -- Bytes that are a text of the kind are visible.
-use Rattle.std.specs.List.{list_all}
 use Rattle.crawl_kinds.specs.Text.{is_visible}
 use Rattle.journal_read.proofs.Texts.{all_from_text, weaker_all}
 use Rattle.journal_read.proofs.text.text_of.Goals as goal

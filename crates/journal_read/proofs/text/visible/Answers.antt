@@ -1,4 +1,3 @@
-use Rattle.std.proofs.Common.{sym}
 use Rattle.journal_read.proofs.Texts.{visible_is_utf8}
 use Rattle.journal_read.proofs.text.visible.Goals as goal
 

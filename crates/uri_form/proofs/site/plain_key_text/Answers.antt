@@ -1,5 +1,5 @@
-use Rattle.std.proofs.Common.{◌≡◌, ◌++◌, codes, rules, sym, ◌∙◌}
-use Rattle.std.specs.Prelude.{string_bytes}
+use Rattle.std.proofs.Common.{◌≡◌, ◌++◌, List, ℕ, codes, rules, ap, subst, sym, ◌∙◌}
+use Rattle.std.specs.Prelude.{IfOk, string_bytes}
 use Rattle.std.proofs.lemmas.Bool.{false≢true}
 use Rattle.std.proofs.lemmas.Slice.Eq.{bytes_eq-Decides}
 use Rattle.url.specs.Input.{lowercase}
@@ -14,5 +14,8 @@ returns-then-eq c =
 
 pub returns : goal.returns
 returns c =
-    let text : string_bytes c.push_str.new.self ≡ string_bytes c.args.site.now.key_head ++ lowercase c.args.path.now = search rules in
-    text ∙ site_key c.args.site.now c.requires.site c.args.path.now c.requires.path c.requires.within (λ robots. false≢true (c.if-eq.ensures ∙ (bytes_eq-Decides c.args.path.now (codes "/robots.txt")).1 robots))
+    let head = string_bytes c.args.site.now.key_head in
+    let text : c.as_str.result.now ++ c.as_str-2.result.now ≡ head ++ lowercase c.args.path.now =
+    ap (λ (t : List ℕ). t ++ c.as_str-2.result.now) c.as_str.ensures.value ∙ ap (λ (t : List ℕ). head ++ t) (c.as_str-2.ensures.value ∙ c.in_ok-path.ensures.ok) in
+    let key = site_key c.args.site.now c.requires.site c.args.path.now c.requires.path c.requires.within (λ robots. false≢true (c.if-eq.ensures ∙ (bytes_eq-Decides c.args.path.now (codes "/robots.txt")).1 robots)) in
+    subst (λ (t : List ℕ). IfOk c.joined.result (λ own. string_bytes own ≡ t)) (text ∙ key) c.joined.ensures

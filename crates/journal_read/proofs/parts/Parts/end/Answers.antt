@@ -1,7 +1,6 @@
 -- Where a part is left, the list of parts is not empty.
-use Rattle.std.proofs.Common.{◌≡◌, true, cond, [], refl, ◌∙◌, sym}
+use Rattle.std.proofs.Common.{refl, ◌∙◌, sym}
 use Rattle.std.proofs.lemmas.Bool.{cond-true}
-use Rattle.journal_read.specs.Reading.{cells}
 use Rattle.journal_read.proofs.Cells.{cells_some}
 use Rattle.journal_read.proofs.parts.Parts.end.Goals as goal
 
