@@ -1,0 +1,12 @@
+pub mod Settings
+pub mod RuleNames
+pub mod Values
+pub mod Texts
+pub mod Rules
+pub mod Numbers
+pub mod Unknown
+pub mod Missing
+pub mod OutOfRange
+pub mod Gives
+pub mod Job
+pub mod Worked
