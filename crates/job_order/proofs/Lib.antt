@@ -1,0 +1,12 @@
+pub mod Contacts
+pub mod KeyTexts
+pub mod Kept
+pub mod Lacking
+pub mod Order
+pub mod Ports
+pub mod Refusals
+pub mod RuleSetting
+pub mod SettingNames
+pub mod Small
+pub mod Tables
+pub mod TextSettings
