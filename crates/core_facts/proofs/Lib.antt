@@ -1,1 +1,2 @@
+pub mod Robots
 pub mod Worked

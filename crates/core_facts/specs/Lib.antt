@@ -1,4 +1,5 @@
 pub mod CoreFacts
+pub mod Laws
 pub mod RobotsAnswer
 pub mod ValidEvent
 pub mod Worked

@@ -2,9 +2,15 @@
 //! them.
 #![tactic(auto)]
 
+ghost use Rattle.core_facts.specs.Laws.{RobotsAreAnswered};
 ghost use Rattle.core_facts.specs.Worked.{AreWorked};
 
 /// What the definitions give for addresses, paths and events whose answers are known.
 pub fn worked_examples()
     ensures { AreWorked }
+{}
+
+/// Whether a robots file allows an address, as it is computed for the facts, is what its rules say (RFC 9309 section 2.2.2).
+pub fn robots_are_answered()
+    ensures { RobotsAreAnswered }
 {}
