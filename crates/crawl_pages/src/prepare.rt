@@ -10,8 +10,8 @@ use crate::settle::settle;
 use crawl_kinds::{End, Millis, NoMemory};
 use crawl_traits::{Clock, Link};
 use event_frames::finish_frame;
-use visit_core::{Answer, Emitted, Frontier};
 use std::alloc::Global;
+use visit_core::{Answer, Emitted, Frontier};
 
 /// Brings an item to its end.
 fn finish(core: &mut Frontier, emitted: Emitted, end: End, now: Millis) -> Result<(), NoMemory>

@@ -14,9 +14,9 @@ use crate::settle::length_of;
 use crate::why::Why;
 use crawl_kinds::NoMemory;
 use crawl_traits::{Clock, Failed, Link, Sink, Volume, cut_synced};
-use visit_core::Frontier;
 use gate_log::GateLog;
 use std::alloc::Global;
+use visit_core::Frontier;
 
 /// Visits every item that waits in the core, in order, each once: it is fetched over the link; where a whole response
 /// came, its record is written at the end of the first WARC file, which begins empty; its events are written into the
