@@ -1,7 +1,7 @@
 // Job texts and what each is answered.
-use crawl_kinds::HopPath;
+use crawl_kinds::{HopPath, Settings};
 use job_order::{Job, JobFault, Name};
-use scope_rules::{Candidate, Decision, decide};
+use scope_rules::{Candidate, Decision, Scope, decide};
 use std::alloc::Global;
 use std::test::Fail;
 use uri_form::{parse_uri, surt};
@@ -220,14 +220,64 @@ fn with_number(alloc: Global, name: &str, number: u64) -> Result<String, Fail> {
     answer(alloc, text.as_bytes())
 }
 
-fn candidate(alloc: Global, text: &str) -> Result<Candidate, Fail> {
+// The sample job.
+fn sample(alloc: Global) -> Result<Job, Fail> {
+    let text = job_text(alloc, "", "")?;
+    let job = Job::read(alloc, text.as_bytes());
+    Ok(job.ok().ok_or("it is refused")?)
+}
+
+// The numbers of settings, in their order.
+fn numbers_of(own: &Settings) -> [u64; 16] {
+    [
+        u64::from(own.workers),
+        own.delay_factor,
+        own.min_delay_ms,
+        own.max_delay_ms,
+        own.max_crawl_delay_s,
+        u64::from(own.max_tries),
+        own.retry_delay_s,
+        own.timeout_ms,
+        own.host_budget,
+        own.max_pages,
+        own.max_bytes,
+        own.max_seconds,
+        own.max_keys,
+        own.max_response_bytes,
+        own.warc_max_bytes,
+        own.checkpoint_finishes,
+    ]
+}
+
+// The texts of settings.
+fn texts_of(alloc: Global, own: &Settings) -> Result<String, Fail> {
+    let proxy = match &own.proxy {
+        Some(proxy) => proxy.as_str(),
+        None => "none",
+    };
+    Ok(format!(in alloc; "{} {} {} {proxy}", own.name, own.agent, own.contact)?)
+}
+
+// Whether a scope takes an address.
+fn takes(alloc: Global, scope: &Scope, text: &str) -> Result<bool, Fail> {
     let uri = parse_uri(alloc, text)?;
     let form = surt(alloc, &uri)?;
-    Ok(Candidate {
+    let candidate = Candidate {
         uri,
         surt: form,
         path: HopPath::new(alloc, "")?,
-    })
+    };
+    let decision = decide(alloc, scope, &candidate)?;
+    Ok(decision == Decision::Accept)
+}
+
+// Whether a job with a number at both ends of a range is read, and one with the number above refused by its name.
+fn keeps_range(alloc: Global, name: &str, least: u64, most: u64) -> Result<bool, Fail> {
+    let low = with_number(alloc, name, least)?;
+    let high = with_number(alloc, name, most)?;
+    let above = with_number(alloc, name, most.wrapping_add(1))?;
+    let refused = format!(in alloc; "OutOfRange {name}")?;
+    Ok(low.as_str() == "read" && high.as_str() == "read" && above.as_str() == refused.as_str())
 }
 
 #[test]
@@ -235,86 +285,63 @@ fn each_text_has_its_answer(rt: HostRuntime) -> Result<(), Fail> {
     let alloc = rt.alloc();
     for (without, more, want) in ANSWERS {
         let text = job_text(alloc, without, more)?;
-        assert_eq!(rt;
-            answer(alloc, text.as_bytes())?.as_str(),
-            want,
-            "{without}: {more}"
-        );
+        let given = answer(alloc, text.as_bytes())?;
+        assert_eq!(rt; given.as_str(), want, "{without}: {more}");
     }
+    Ok(())
+}
+
+#[test]
+fn numbers_are_taken_within_their_ranges(rt: HostRuntime) -> Result<(), Fail> {
+    let alloc = rt.alloc();
     for (name, least, most) in RANGES {
-        let refused = format!(in alloc; "OutOfRange {name}")?;
-        assert_eq!(rt; with_number(alloc, name, least)?.as_str(), "read", "{name}");
-        assert_eq!(rt; with_number(alloc, name, most)?.as_str(), "read", "{name}");
-        assert_eq!(rt;
-            with_number(alloc, name, most.wrapping_add(1))?.as_str(),
-            refused.as_str(),
-            "{name}"
-        );
-        if name != "max_keys" {
-            assert_eq!(rt;
-                with_number(alloc, name, least.wrapping_sub(1))?.as_str() == "read",
-                false,
-                "{name}"
-            );
-        }
+        assert!(rt; keeps_range(alloc, name, least, most)?, "{name}");
+        let below = with_number(alloc, name, least.wrapping_sub(1))?;
+        let is_read = below.as_str() == "read";
+        assert!(rt; !is_read, "{name}");
     }
-    assert_eq!(rt; answer(alloc, b"name = '\xff'")?.as_str(), "NotToml");
+    Ok(())
+}
+
+#[test]
+fn other_bytes_are_refused(rt: HostRuntime) -> Result<(), Fail> {
+    let alloc = rt.alloc();
     let long = "#".repeat(alloc, 1_048_577)?;
     assert_eq!(rt; answer(alloc, long.as_bytes())?.as_str(), "TooLong");
+    assert_eq!(rt; answer(alloc, b"name = '\xff'")?.as_str(), "NotToml");
     Ok(())
 }
 
 #[test]
 fn a_sample_has_every_default(rt: HostRuntime) -> Result<(), Fail> {
     let alloc = rt.alloc();
-    let text = job_text(alloc, "", "")?;
-    let job = Job::read(alloc, text.as_bytes())
-        .ok()
-        .ok_or("it is refused")?;
-    let own = &job.settings;
-    assert_eq!(rt; own.name.as_str(), "sample");
-    assert_eq!(rt; own.agent.as_str(), "sampler");
-    assert_eq!(rt; own.contact.as_str(), "http://example.org/bot");
-    assert!(rt; own.proxy.is_none());
-    assert_eq!(rt; [own.workers, own.max_tries], [25, 30]);
+    let job = sample(alloc)?;
+    let texts = texts_of(alloc, &job.settings)?;
     assert_eq!(rt;
-        [
-            own.delay_factor,
-            own.min_delay_ms,
-            own.max_delay_ms,
-            own.max_crawl_delay_s
-        ],
-        [5, 3000, 30_000, 300]
+        texts.as_str(),
+        "sample sampler http://example.org/bot none"
     );
-    assert_eq!(rt;
-        [
-            own.retry_delay_s,
-            own.timeout_ms,
-            own.host_budget,
-            own.max_pages
-        ],
-        [900, 20_000, 0, 0]
-    );
-    assert_eq!(rt;
-        [
-            own.max_bytes,
-            own.max_seconds,
-            own.max_keys,
-            own.max_response_bytes
-        ],
-        [0, 0, 2_000_000, 8_388_608]
-    );
-    assert_eq!(rt;
-        [own.warc_max_bytes, own.checkpoint_finishes],
-        [1_000_000_000, 10_000]
-    );
+    let defaults = [
+        25,
+        5,
+        3000,
+        30_000,
+        300,
+        30,
+        900,
+        20_000,
+        0,
+        0,
+        0,
+        0,
+        2_000_000,
+        8_388_608,
+        1_000_000_000,
+        10_000,
+    ];
+    assert_eq!(rt; numbers_of(&job.settings), defaults);
     assert_eq!(rt; job.seeds.as_slice().len(), 2);
-    for (address, want) in [
-        ("http://b.test/y", Decision::Accept),
-        ("http://c.test/", Decision::Reject),
-    ] {
-        let asked = candidate(alloc, address)?;
-        assert!(rt; decide(alloc, &job.scope, &asked)? == want, "{address}");
-    }
+    assert!(rt; takes(alloc, &job.scope, "http://b.test/y")?);
+    assert!(rt; !takes(alloc, &job.scope, "http://c.test/")?);
     Ok(())
 }
