@@ -2,6 +2,7 @@ pub mod Breaches
 pub mod Budget
 pub mod Checkpoint
 pub mod Fetches
+pub mod Least
 pub mod Limits
 pub mod Names
 pub mod Pages

@@ -4,6 +4,7 @@
 ghost use Rattle.history_rows.specs.Breaches.{PromisesRefuse};
 ghost use Rattle.history_rows.specs.Budget.{BudgetRetires};
 ghost use Rattle.history_rows.specs.Checkpoint.{SnapshotsServe};
+ghost use Rattle.history_rows.specs.Least.{LeastGoes};
 ghost use Rattle.history_rows.specs.Limits.{LimitsStop};
 ghost use Rattle.history_rows.specs.Retries.{RetriesCount};
 ghost use Rattle.history_rows.specs.Robots.{RobotsDecide};
@@ -49,6 +50,11 @@ pub fn snapshots_serve()
 /// A limit of pages, bytes or seconds ends the crawl.
 pub fn limits_stop()
     ensures { LimitsStop }
+{}
+
+/// The least of the adds that may go is the next.
+pub fn least_goes()
+    ensures { LeastGoes }
 {}
 
 /// A lost link and an early fetch break the promises.

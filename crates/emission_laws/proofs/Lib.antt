@@ -1,0 +1,5 @@
+pub mod Answering
+pub mod Choosing
+pub mod Members
+pub mod Order
+pub mod Waiting
