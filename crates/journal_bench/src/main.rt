@@ -1,6 +1,7 @@
-//! Times the journal: `journal_bench FINISHES ADDS OTHERS` makes the lines of so many finishes with so many adds each, of
-//! which so many are on other hosts than their page, reads them and spells the events again, and prints how many events and
-//! bytes came of it. With a fourth argument it prints the megabytes of text a second of processor time each way, too.
+//! Times the journal: `journal_bench FINISHES ADDS OTHERS HOSTS` makes the lines of so many finishes with so many adds each,
+//! of which so many are on so many other hosts than the page, reads them and spells the events again, and prints how many
+//! events and bytes came of it. With a fifth argument it prints the megabytes of text a second of processor time each way,
+//! too.
 #![tactic(auto)]
 
 use anyhow::{Context, bail};
@@ -15,7 +16,7 @@ use std::time::{CpuClock, Duration};
 const END: &str =
     "1700000000000 0 2 200 1700000000000+7 4500 text/html sha1:3I42H3S6NNFQ2MSVX7XZKYAYSCX5QBYJ 0:386:1590 -";
 
-/// The host of a number, one of eight.
+/// The host of the page of this number, one of eight.
 fn host_of(number: u32) -> &'static str {
     match number % 8 {
         0 => "a.test",
@@ -29,12 +30,32 @@ fn host_of(number: u32) -> &'static str {
     }
 }
 
-/// How many finishes there are, how many adds each has, and how many of these are on other hosts.
+/// How many finishes there are, how many adds each has, how many of these are on other hosts, and how many those are.
 #[derive(Clone, Copy)]
 struct Counts {
     finishes: u32,
     adds: u32,
     others: u32,
+    hosts: u32,
+}
+
+/// The line of an item that a page adds.
+fn push_add(
+    alloc: Global,
+    text: &mut String,
+    number: u32,
+    add: u32,
+    counts: Counts,
+) -> Result<(), AllocError> {
+    let page = host_of(number);
+    let line = if add < counts.others {
+        let place = number.wrapping_mul(counts.others).wrapping_add(add);
+        let host = place.checked_rem(counts.hosts).unwrap_or(0);
+        format!(in alloc; "F+ http://h{host}.test/p{number}/{add} LL http://{page}/p{number}\n")?
+    } else {
+        format!(in alloc; "F+ http://{page}/p{number}/{add} LL http://{page}/p{number}\n")?
+    };
+    text.push_str(line.as_str())
 }
 
 /// The lines of a finish.
@@ -49,14 +70,7 @@ fn push_finish(
         "Fs http://{page}/p{number} L http://{page}/ {END}\n"
     )?.as_str())?;
     for add in 0..counts.adds {
-        let host = if add < counts.others {
-            host_of(number.wrapping_add(1).wrapping_add(add % 7))
-        } else {
-            page
-        };
-        text.push_str(format!(in alloc;
-            "F+ http://{host}/p{number}/{add} LL http://{page}/p{number}\n"
-        )?.as_str())?;
+        push_add(alloc, text, number, add, counts)?;
     }
     Ok(())
 }
@@ -97,6 +111,11 @@ fn main(rt: HostRuntime) -> anyhow::Result<()> {
         others: args
             .next()
             .context("how many on other hosts")?
+            .as_str()
+            .parse()?,
+        hosts: args
+            .next()
+            .context("how many other hosts")?
             .as_str()
             .parse()?,
     };

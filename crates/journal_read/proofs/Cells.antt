@@ -1,16 +1,31 @@
 -- Texts between marks, and texts joined by marks.
-use Rattle.std.proofs.Common.{◌≡◌, ℕ, ◌+◌, ◌-◌, ◌<◌, ◌≤◌, Bool, true, false, eqb, ltb, List, [], ◌∷◌, ◌++◌, length, take, drop, get_or, All, Some, None, refl, sym, ap, ◌∙◌, ⊎_elim, add-one, drop-cons, arith}
+use Rattle.std.proofs.Common.{◌≡◌, ℕ, ◌+◌, ◌-◌, ◌<◌, ◌≤◌, Bool, true, false, eqb, ltb, List, [], ◌∷◌, ◌++◌, length, take, drop, get_or, All, Option, Some, None, refl, sym, ap, ◌∙◌, ⊎_elim, add-one, drop-cons, arith}
 use Rattle.std.specs.List.{AllByRecursion, join_with_byte, list_all, position, position_or_len}
-use Rattle.std.proofs.lemmas.Bool.{eqb-true, cases_Bool, both_ways, and_parts, ltb-true, ltb-false, cond-true, cond-false}
+use Rattle.std.proofs.lemmas.Bool.{eqb-true, cases_Bool, both_ways, and_parts, false_from_ne_true, ltb-true, ltb-false, lt-ltb, le-ltb, cond-true, cond-false}
 use Rattle.std.proofs.lemmas.Bool.Decides.{nat_tests}
 use Rattle.std.proofs.lemmas.Grind.{common_steps}
 use Rattle.std.proofs.lemmas.List.{take-append-drop}
-use Rattle.std.proofs.lemmas.List.Sums.{fails_before_first}
+use Rattle.std.proofs.lemmas.List.Sums.{fails_before_first, position_or_len_is}
 use Rattle.std.proofs.lemmas.List.Quantifiers.{position-Some}
 use Rattle.std.proofs.lemmas.List.Elements.{All-cons, All-nil}
 use Rattle.std.proofs.lemmas.List.Splits.{length-slice_split, slice_split_none, slice_split_at, slice_split_first, join_with_byte-slice_split}
+use Rattle.memchr.specs.Find.{IsFirstByte, is_byte}
 use Rattle.crawl_kinds.specs.Text.{is_visible}
 use Rattle.journal_read.specs.Reading.{cells, AreVisible}
+
+-- the first place, as a search finds it
+pub place_found : (mark : ℕ) (text : List ℕ) (r : Option ℕ) → IsFirstByte (is_byte mark) text r → r ≡ position (λ b. eqb b mark) text
+place_found mark text None none =
+    let p : ℕ → Bool = λ b. eqb b mark in
+    let past : position_or_len p text ≡ length text =
+    position_or_len_is p text (length text) 0 (omega arith) (λ k h. false_from_ne_true _ (none k (omega arith) h)) (λ h. absurd (omega arith)) in
+    sym (cond-false (ltb (position_or_len p text) (length text)) (Some (position_or_len p text)) None (le-ltb (position_or_len p text) (length text) (omega arith)))
+place_found mark text (Some i) found =
+    let p : ℕ → Bool = λ b. eqb b mark in
+    let inside : i < length text = found.0.high in
+    let here : position_or_len p text ≡ i =
+    position_or_len_is p text i 0 (omega arith) (λ k h. false_from_ne_true _ (found.0.before k (omega arith) h)) (λ _. found.1) in
+    sym (cond-true (ltb (position_or_len p text) (length text)) (Some (position_or_len p text)) None (lt-ltb (position_or_len p text) (length text) (omega arith)) ∙ ap Some here)
 
 -- no mark is there
 abbrev pub IsFree : ℕ → List ℕ → Type 0

@@ -6,6 +6,7 @@ pub mod Chains
 pub mod Codes
 pub mod EventLaws
 pub mod Fetches
+pub mod Follows
 pub mod Grammar
 pub mod LineLaws
 pub mod Noted

@@ -1,5 +1,5 @@
 -- Texts of events, line by line.
-use Rattle.std.proofs.Common.{◌≡◌, ◌≢◌, ⊎_elim, ℕ, false, eqb, List, [], ◌∷◌, ◌++◌, length, map, Result, Ok, Err, refl, sym, ap, subst, ◌∙◌, arith, append_assoc, append-nil, length-append}
+use Rattle.std.proofs.Common.{◌≡◌, ◌≢◌, ⊎_elim, ℕ, false, eqb, List, [], ◌∷◌, ◌++◌, length, map, refl, sym, ap, subst, ◌∙◌, arith, append_assoc, append-nil, length-append}
 use Rattle.std.specs.Prelude.{flat_map}
 use Rattle.std.specs.List.{AllByRecursion, join_with_byte, onto_first}
 use Rattle.std.proofs.lemmas.Bool.{cases_Bool, eqb-true, cond-true, cond-false}
@@ -10,12 +10,9 @@ use Rattle.crawl_kinds.specs.declared.event.Event.{Event}
 use Rattle.crawl_kinds.specs.declared.event.Event.TheVariants.{Session as SessionEvent, Seeds as SeedsEvent, Emit as EmitEvent, Finish as FinishEvent}
 use Rattle.journal_valid.specs.Items.{IsAddress, IsAdd}
 use Rattle.journal_valid.specs.Valid.{IsEvent, IsSpelled}
-use Rattle.journal_read.specs.declared.fault.Misread.{Misread}
-use Rattle.journal_read.specs.declared.fault.Misread.TheVariants.{Bad, NoMemory}
 use Rattle.journal_read.specs.declared.line.Line.{Line}
 use Rattle.journal_read.specs.declared.line.Line.TheVariants.{Seed, Add}
 use Rattle.journal_read.specs.Faults.{first_line}
-use Rattle.journal_read.specs.Joining.{Continues, Joins}
 use Rattle.journal_read.specs.Lines.{IsLine, IsLineOf, fields_of, lines_of, text_of}
 use Rattle.journal_read.specs.Reading.{cells}
 use Rattle.journal_read.proofs.Cells.{cells_some}
@@ -27,12 +24,6 @@ use Rattle.journal_read.proofs.Visible.{all_append}
 pub line_of_same : (text : List ℕ) (l m : Line) → IsLineOf text l → IsLineOf text m → l ≡ m
 line_of_same text l m il im =
     line_same l m il.0 im.0 (sym (line_cells l il.0) ∙ (ap (cells 32) (sym il.1 ∙ im.1) ∙ line_cells m im.0))
-
-pub continues : (text : List ℕ) (old new : List Event) (l : Line) (r : Result (Unit {0}) Misread) → IsLineOf text l → Joins l old new r → Continues text old new r
-continues text old new l (Ok done) is h = (l, is, h)
-continues text old new l (Err Bad) is h =
-    λ m im es e. h es (e ∙ ap (λ (x : Line). flat_map lines_of old ++ x ∷ []) (line_of_same text m l im is))
-continues text old new l (Err NoMemory) is h = tt
 
 parts_all : {X : Type 0} (P : X → Type 0) (xs ys : List X) → AllByRecursion P (xs ++ ys) → AllByRecursion P xs × AllByRecursion P ys
 parts_all P [] ys h = (tt, h)

@@ -1,5 +1,5 @@
 -- What stands behind a tag is that of one kind of line.
-use Rattle.std.proofs.Common.{◌≡◌, ◌≢◌, ℕ, ◌≤◌, eqb, cond, List, [], ◌∷◌, ◌++◌, length, get_or, drop, Option, Some, None, Err, refl, sym, ap, subst, ◌∙◌, arith, append-nil, length-append}
+use Rattle.std.proofs.Common.{◌≡◌, ◌≢◌, ℕ, ◌≤◌, eqb, cond, List, [], ◌∷◌, ◌++◌, length, get_or, drop, Option, Some, None, Err, refl, sym, ap, subst, ◌∙◌, arith, append-nil}
 use Rattle.std.specs.Prelude.{codes, decimal, IfSome}
 use Rattle.std.specs.List.{join_with_byte}
 use Rattle.std.proofs.lemmas.List.Splits.{join_with_byte-slice_split}
@@ -21,7 +21,7 @@ use Rattle.journal_read.specs.declared.read_line.Opening.{Opening}
 use Rattle.journal_read.specs.declared.read_line.Emission.{Emission}
 use Rattle.journal_read.specs.declared.read_line.Finishing.{Finishing}
 use Rattle.journal_read.specs.Lines.{IsLineOf, IsTagged, fields_of, rest_of, tag_of}
-use Rattle.journal_read.specs.Reading.{Reads, Takes, cells}
+use Rattle.journal_read.specs.Reading.{Takes, cells}
 use Rattle.journal_read.proofs.Same.{at, item_same}
 use Rattle.journal_read.proofs.LineLaws.{line_cells}
 
@@ -206,23 +206,8 @@ pub as_many : (l m : Line) → tag_of l ≡ tag_of m → length (rest_of l) ≡ 
 as_many l m e = counted l ∙ (ap (λ (t : List ℕ). count (first t) (second t)) e ∙ sym (counted m))
 
 -- the parts of a text that is a line
-parts_of : (text tag : List ℕ) (mid : List (List ℕ)) (l : Line) → cells 32 text ≡ tag ∷ mid → IsLineOf text l → tag ∷ mid ≡ fields_of l
+pub parts_of : (text tag : List ℕ) (mid : List (List ℕ)) (l : Line) → cells 32 text ≡ tag ∷ mid → IsLineOf text l → tag ∷ mid ≡ fields_of l
 parts_of text tag mid l cut is = sym cut ∙ (ap (cells 32) is.1 ∙ line_cells l is.0)
-
-pub line_out : (text tag : List ℕ) (mid new : List (List ℕ)) (fault : Misread) → cells 32 text ≡ tag ∷ mid → Takes rest_of (IsTagged tag) mid new (Err fault) → Reads (IsLineOf text) (Err fault)
-line_out text tag mid new Bad cut h =
-    λ l is.
-    let both = parts_of text tag mid l cut is in
-    h l [] (is.0, ap (at 0) both) (ap (drop 1) both ∙ sym (append-nil (rest_of l)))
-line_out text tag mid new NoMemory cut h = tt
-
-pub line_more : (text tag : List ℕ) (mid new : List (List ℕ)) (m : Line) → cells 32 text ≡ tag ∷ mid → IsTagged tag m → mid ≡ rest_of m ++ new → (new ≡ [] → ⊥) → (l : Line) → IsLineOf text l → ⊥
-line_more text tag mid [] m cut tagged e more l is = more refl
-line_more text tag mid (n ∷ new) m cut tagged e more l is =
-    let both = parts_of text tag mid l cut is in
-    let rest : rest_of m ++ n ∷ new ≡ rest_of l = sym e ∙ ap (drop 1) both in
-    let many = as_many m l (sym tagged.1 ∙ ap (at 0) both) in
-    omega (arith, many, ap length rest, length-append (rest_of m) (n ∷ new))
 
 pub line_read : (text tag : List ℕ) (mid new : List (List ℕ)) (l : Line) → cells 32 text ≡ tag ∷ mid → IsTagged tag l → mid ≡ rest_of l ++ new → new ≡ [] → IsLineOf text l
 line_read text tag mid new l cut tagged e none =

@@ -1,13 +1,14 @@
 -- How a line joins the events of the lines before it.
 --     may_seed e, may_add e      whether such a line may stand behind the lines of e
---     Grows, Joins, Continues      what a line makes of an event, of a list of events, and what a text does
+--     Grows, Joins      what a line makes of an event, and of a list of events
+--     Follows, Continues      what the fields behind a tag make of a list of events, and what a text does
 use Rattle.std.specs.Prelude.{◌≡◌, ◌≢◌, ℕ, Bool, true, false, List, [], ◌∷◌, ◌++◌, Result, Ok, Err, flat_map}
 use Rattle.crawl_kinds.specs.declared.event.Event.{Event}
 use Rattle.crawl_kinds.specs.declared.event.Event.TheVariants.{Session, Seeds, Emit, Finish}
 use Rattle.journal_read.specs.declared.fault.Misread.{Misread}
 use Rattle.journal_read.specs.declared.fault.Misread.TheVariants.{Bad, NoMemory}
 use Rattle.journal_read.specs.declared.line.Line.{Line}
-use Rattle.journal_read.specs.Lines.{IsLineOf, lines_of}
+use Rattle.journal_read.specs.Lines.{IsLineOf, IsTagged, lines_of, rest_of}
 
 -- seeds are given before items are added
 abbrev pub may_seed : Event → Bool
@@ -35,6 +36,12 @@ abbrev pub Joins : Line → List Event → List Event → Result (Unit {0}) Misr
 Joins l old new (Ok done) = flat_map lines_of new ≡ flat_map lines_of old ++ l ∷ []
 Joins l old new (Err Bad) = (events : List Event) → flat_map lines_of events ≢ flat_map lines_of old ++ l ∷ []
 Joins l old new (Err NoMemory) = Unit {0}
+
+-- fields are those behind the tag of an allowed line with which events have one line more, or Bad where they are none
+abbrev pub Follows : List ℕ → List (List ℕ) → List Event → List Event → Result (Unit {0}) Misread → Type 0
+Follows tag fields old new (Ok done) = (l : Line) × IsTagged tag l × (fields ≡ rest_of l) × (flat_map lines_of new ≡ flat_map lines_of old ++ l ∷ [])
+Follows tag fields old new (Err Bad) = (l : Line) → IsTagged tag l → fields ≡ rest_of l → (events : List Event) → flat_map lines_of events ≢ flat_map lines_of old ++ l ∷ []
+Follows tag fields old new (Err NoMemory) = Unit {0}
 
 -- a text is an allowed line with which events have one line more, or Bad where it is none
 abbrev pub Continues : List ℕ → List Event → List Event → Result (Unit {0}) Misread → Type 0

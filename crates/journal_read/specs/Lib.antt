@@ -3,5 +3,4 @@ pub mod Faults
 pub mod Items
 pub mod Joining
 pub mod Lines
-pub mod Page
 pub mod Reading

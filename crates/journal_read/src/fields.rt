@@ -4,14 +4,13 @@ ghost use Rattle.crawl_kinds.specs.Text.{is_text, is_hop};
 ghost use Rattle.journal_spec.specs.Fields.{absent, item_fields, path_field, ticket_fields, verdict_field};
 ghost use Rattle.journal_valid.specs.Items.{IsAddress, IsItem};
 ghost use Rattle.journal_valid.specs.Valid.{IsTicket};
-ghost use Rattle.journal_read.specs.Page.{IsPage};
 ghost use Rattle.journal_read.specs.Reading.{Finds, Reads, Takes, left};
 
 use crate::fault::Misread;
 use crate::item::item_of;
 use crate::number::number_of;
-use crate::page::{Page, site_in};
 use crate::parts::{Parts, is_same};
+use crate::recent::Recent;
 use crate::text::{address_of, named_of, text_of};
 use crawl_kinds::{Copied, HopPath, Item, MAX_MS, Millis, PathForm, Uri, Verdict};
 use std::alloc::Global;
@@ -30,40 +29,38 @@ fn path_of(alloc: Global, text: &[u8]) -> Result<HopPath, Misread>
 }
 
 /// The address that a text is, which is often that of the page.
-fn address_on(alloc: Global, page: Option<&Page>, text: &[u8]) -> Result<Uri, Misread>
-    requires { IfSome page (λ page. IsPage page.now) }
+fn address_on(alloc: Global, recent: &mut Recent, text: &[u8]) -> Result<Uri, Misread>
     ensures { Reads (λ uri. (uri ≡ text.now) × IsAddress text.now) result }
 {
-    if let Some(page) = page {
-        if is_same(page.uri.as_bytes(), text) {
-            return Ok(page.uri.copy()?);
+    if let Some(page) = &recent.page {
+        let uri = page.uri();
+        if is_same(uri.as_bytes(), text) {
+            return Ok(uri.copy()?);
         }
     }
-    address_of(alloc, text)
+    address_of(alloc, &mut recent.hosts, text)
 }
 
 /// The address of the page that names an item, or that there is none.
-fn via_of(alloc: Global, page: Option<&Page>, text: &[u8]) -> Result<Option<Uri>, Misread>
-    requires { IfSome page (λ page. IsPage page.now) }
+fn via_of(alloc: Global, recent: &mut Recent, text: &[u8]) -> Result<Option<Uri>, Misread>
     ensures { Reads (λ via. (text.now ≡ unwrap_or via absent) × IfSome via IsAddress) result }
 {
     if is_same(text, b"-") {
         return Ok(None);
     }
-    Ok(Some(address_on(alloc, page, text)?))
+    Ok(Some(address_on(alloc, recent, text)?))
 }
 
-/// Takes the three fields of an item. Its host is often that of the page, and its via the page.
-pub fn take_item(alloc: Global, page: Option<&Page>, parts: &mut Parts) -> Result<Item, Misread>
-    requires { IfSome page (λ page. IsPage page.now) }
+/// Takes the three fields of an item. Its host is often a known one, and its via the page.
+pub fn take_item(alloc: Global, recent: &mut Recent, parts: &mut Parts) -> Result<Item, Misread>
     ensures { Takes item_fields IsItem (left parts.old) (left parts.new) result }
 {
     let uri = parts.next()?;
     let path = parts.next()?;
     let via = parts.next()?;
-    let named = named_of(alloc, site_in(page), uri)?;
+    let named = named_of(alloc, &mut recent.hosts, uri)?;
     let path = path_of(alloc, path)?;
-    let via = via_of(alloc, page, via)?;
+    let via = via_of(alloc, recent, via)?;
     item_of(alloc, named, path, via)
 }
 

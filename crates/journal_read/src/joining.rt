@@ -52,7 +52,7 @@ fn seed_to_last(events: &mut Vec<Event>, uri: Uri) -> Result<(), Misread>
 }
 
 /// Puts an item behind those of the last event, where that takes it.
-fn add_to_last(events: &mut Vec<Event>, item: Item) -> Result<(), Misread>
+pub fn add_to_last(events: &mut Vec<Event>, item: Item) -> Result<(), Misread>
     ensures { Joins (Add item) events.old.items events.new.items result }
 {
     match events.last_mut() {
@@ -69,8 +69,8 @@ fn begin(events: &mut Vec<Event>, event: Event) -> Result<(), NoMemory>
     Ok(())
 }
 
-/// Puts a line behind those of events: it begins an event, or continues the last one.
-pub fn join(alloc: Global, events: &mut Vec<Event>, line: Line) -> Result<(), Misread>
+/// Puts a line behind those of events: it begins an event, or continues the last one. A finish has room for so many items.
+pub fn join(alloc: Global, events: &mut Vec<Event>, line: Line, room: usize) -> Result<(), Misread>
     ensures { Joins line events.old.items events.new.items result }
 {
     let event = match line {
@@ -107,7 +107,7 @@ pub fn join(alloc: Global, events: &mut Vec<Event>, line: Line) -> Result<(), Mi
             ticket,
             item,
             end,
-            adds: Items::new(alloc),
+            adds: Items::from(Vec::with_capacity(alloc, room)?),
         },
     };
     Ok(begin(events, event)?)

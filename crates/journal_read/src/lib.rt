@@ -7,16 +7,17 @@ mod end;
 mod fault;
 mod fetch;
 mod fields;
+mod hosts;
 mod item;
 mod joining;
 mod laws;
 mod line;
 mod notes;
 mod number;
-mod page;
 mod parts;
 mod read_line;
 mod reader;
+mod recent;
 mod text;
 
 pub use fault::LineFault;

@@ -3,6 +3,7 @@ ghost use Rattle.std.specs.Prelude.{◌≡◌, ◌∷◌, ◌++◌, [], ◌==◌
 ghost use Rattle.journal_read.specs.Reading.{cells, left};
 
 use crate::fault::Misread;
+use memchr::memchr;
 
 /// Whether two texts are one.
 pub fn is_same(one: &[u8], other: &[u8]) -> bool
@@ -15,7 +16,7 @@ pub fn is_same(one: &[u8], other: &[u8]) -> bool
 pub fn find(text: &[u8], mark: u8) -> Option<usize>
     ensures { result ≡ position (λ b. b == mark) text.now }
 {
-    text.iter().position(|b| *b == mark)
+    memchr(mark, text)
 }
 
 /// What stands before the first mark, and behind it.

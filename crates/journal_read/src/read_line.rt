@@ -1,13 +1,12 @@
-// A line of the journal, read.
-ghost use Rattle.std.specs.Prelude.{◌≡◌, ◌∷◌, ◌++◌, [], ◌≤◌, IfSome, IsTrue, codes, decimal, length};
+// What stands behind the tag of a line, read.
+ghost use Rattle.std.specs.Prelude.{◌≡◌, ◌≢◌, ◌∷◌, ◌++◌, [], ◌≤◌, IsTrue, codes, decimal, length};
 ghost use Rattle.crawl_kinds.specs.Text.{is_text, is_visible};
 ghost use Rattle.crawl_kinds.specs.declared.event.TheConstants.{MAX_MS};
 ghost use Rattle.journal_spec.specs.Fields.{item_fields, end_fields, outcome_tag, ticket_fields, verdict_field};
 ghost use Rattle.journal_valid.specs.Ends.{IsEnd};
 ghost use Rattle.journal_valid.specs.Items.{IsAdd, IsAddress, IsItem};
 ghost use Rattle.journal_valid.specs.Valid.{IsSession, IsTicket};
-ghost use Rattle.journal_read.specs.Lines.{IsLineOf, IsTagged, rest_of};
-ghost use Rattle.journal_read.specs.Page.{IsPage};
+ghost use Rattle.journal_read.specs.Lines.{IsTagged, rest_of};
 ghost use Rattle.journal_read.specs.Reading.{Takes, Reads, left};
 
 use crate::end::{tagged_outcome, take_end};
@@ -16,8 +15,8 @@ use crate::fields::{Ticket, take_item, take_ticket, take_time, verdict_of};
 use crate::item::robots_redirects;
 use crate::line::Line;
 use crate::number::number_of;
-use crate::page::Page;
 use crate::parts::Parts;
+use crate::recent::Recent;
 use crate::text::{address_of, text_of};
 use crawl_kinds::{End, Item, Key, KeyForm, Millis, Outcome, Uri, Verdict};
 use std::alloc::Global;
@@ -75,45 +74,33 @@ fn seeds_line(parts: &mut Parts) -> Result<Line, Misread>
 }
 
 /// Takes an address.
-fn take_address(alloc: Global, parts: &mut Parts) -> Result<Uri, Misread>
+fn take_address(alloc: Global, recent: &mut Recent, parts: &mut Parts) -> Result<Uri, Misread>
     ensures { Takes (λ uri. uri ∷ []) IsAddress (left parts.old) (left parts.new) result }
 {
-    address_of(alloc, parts.next()?)
+    address_of(alloc, &mut recent.hosts, parts.next()?)
 }
 
 /// Reads what stands behind `Sd`.
-fn seed_line(alloc: Global, parts: &mut Parts) -> Result<Line, Misread>
+fn seed_line(alloc: Global, recent: &mut Recent, parts: &mut Parts) -> Result<Line, Misread>
     ensures { Takes rest_of (IsTagged (codes "Sd")) (left parts.old) (left parts.new) result }
 {
-    match take_address(alloc, parts) {
+    match take_address(alloc, recent, parts) {
         Ok(uri) => Ok(Line::Seed { uri }),
         Err(fault) => Err(fault),
     }
 }
 
 /// Takes an item that may be added: a robots file is redirected at most five times.
-fn take_add(alloc: Global, page: Option<&Page>, parts: &mut Parts) -> Result<Item, Misread>
-    requires { IfSome page (λ page. IsPage page.now) }
+pub fn take_add(alloc: Global, recent: &mut Recent, parts: &mut Parts) -> Result<Item, Misread>
     ensures { Takes item_fields IsAdd (left parts.old) (left parts.new) result }
 {
-    let item = take_item(alloc, page, parts)?;
+    let item = take_item(alloc, recent, parts)?;
     if let Some(redirects) = robots_redirects(item.path.as_bytes()) {
         if 5 < redirects {
             return Err(Misread::Bad);
         }
     }
     Ok(item)
-}
-
-/// Reads what stands behind `F+`.
-fn add_line(alloc: Global, page: Option<&Page>, parts: &mut Parts) -> Result<Line, Misread>
-    requires { IfSome page (λ page. IsPage page.now) }
-    ensures { Takes rest_of (IsTagged (codes "F+")) (left parts.old) (left parts.new) result }
-{
-    match take_add(alloc, page, parts) {
-        Ok(item) => Ok(Line::Add { item }),
-        Err(fault) => Err(fault),
-    }
 }
 
 /// The fields behind the tag of an item that was handed out.
@@ -124,13 +111,12 @@ struct Emission {
 }
 
 /// Takes the item, the ticket and the verdict.
-fn take_emission(alloc: Global, page: Option<&Page>, parts: &mut Parts) -> Result<Emission, Misread>
-    requires { IfSome page (λ page. IsPage page.now) }
+fn take_emission(alloc: Global, recent: &mut Recent, parts: &mut Parts) -> Result<Emission, Misread>
     ensures { Takes (λ e. item_fields e.item ++ ticket_fields e.ticket.time e.ticket.caller e.ticket.ticket ++ verdict_field e.verdict ∷ [])
         (λ e. IsTicket e.ticket.time e.ticket.caller e.ticket.ticket × IsItem e.item)
         (left parts.old) (left parts.new) result }
 {
-    let item = take_item(alloc, page, parts)?;
+    let item = take_item(alloc, recent, parts)?;
     let ticket = take_ticket(parts)?;
     match verdict_of(parts.next()?) {
         Some(verdict) => Ok(Emission {
@@ -143,11 +129,10 @@ fn take_emission(alloc: Global, page: Option<&Page>, parts: &mut Parts) -> Resul
 }
 
 /// Reads what stands behind `Fe`.
-fn emit_line(alloc: Global, page: Option<&Page>, parts: &mut Parts) -> Result<Line, Misread>
-    requires { IfSome page (λ page. IsPage page.now) }
+fn emit_line(alloc: Global, recent: &mut Recent, parts: &mut Parts) -> Result<Line, Misread>
     ensures { Takes rest_of (IsTagged (codes "Fe")) (left parts.old) (left parts.new) result }
 {
-    match take_emission(alloc, page, parts) {
+    match take_emission(alloc, recent, parts) {
         Ok(
             Emission {
                 item,
@@ -179,16 +164,15 @@ struct Finishing {
 /// Takes the item, the ticket and the end.
 fn take_finishing(
     alloc: Global,
-    page: Option<&Page>,
+    recent: &mut Recent,
     outcome: Outcome,
     parts: &mut Parts,
 ) -> Result<Finishing, Misread>
-    requires { IfSome page (λ page. IsPage page.now) }
     ensures { Takes (λ f. item_fields f.item ++ ticket_fields f.ticket.time f.ticket.caller f.ticket.ticket ++ end_fields f.end)
         (λ f. IsTicket f.ticket.time f.ticket.caller f.ticket.ticket × IsItem f.item × IsEnd f.end × (f.end.outcome ≡ outcome))
         (left parts.old) (left parts.new) result }
 {
-    let item = take_item(alloc, page, parts)?;
+    let item = take_item(alloc, recent, parts)?;
     let ticket = take_ticket(parts)?;
     let end = take_end(alloc, outcome, parts)?;
     Ok(Finishing { item, ticket, end })
@@ -197,14 +181,13 @@ fn take_finishing(
 /// Reads what stands behind the tag of an outcome.
 fn finish_line(
     alloc: Global,
-    page: Option<&Page>,
+    recent: &mut Recent,
     outcome: Outcome,
     parts: &mut Parts,
 ) -> Result<Line, Misread>
-    requires { IfSome page (λ page. IsPage page.now) }
     ensures { Takes rest_of (IsTagged (outcome_tag outcome)) (left parts.old) (left parts.new) result }
 {
-    match take_finishing(alloc, page, outcome, parts) {
+    match take_finishing(alloc, recent, outcome, parts) {
         Ok(
             Finishing {
                 item,
@@ -226,38 +209,24 @@ fn finish_line(
     }
 }
 
-/// Reads what stands behind a tag.
-fn tagged_line(
+/// Reads what stands behind a tag other than that of an added item.
+pub fn tagged_line(
     alloc: Global,
-    page: Option<&Page>,
+    recent: &mut Recent,
     tag: &[u8],
     parts: &mut Parts,
 ) -> Result<Line, Misread>
-    requires { IfSome page (λ page. IsPage page.now) }
+    requires { tag.now ≢ codes "F+" }
     ensures { Takes rest_of (IsTagged tag.now) (left parts.old) (left parts.new) result }
 {
     match tag {
-        b"F+" => add_line(alloc, page, parts),
         b"S+" => session_line(alloc, parts),
         b"S*" => seeds_line(parts),
-        b"Sd" => seed_line(alloc, parts),
-        b"Fe" => emit_line(alloc, page, parts),
+        b"Sd" => seed_line(alloc, recent, parts),
+        b"Fe" => emit_line(alloc, recent, parts),
         _ => match tagged_outcome(tag) {
-            Some(outcome) => finish_line(alloc, page, outcome, parts),
+            Some(outcome) => finish_line(alloc, recent, outcome, parts),
             None => Err(Misread::Bad),
         },
     }
-}
-
-/// The line that a text spells, but for the line feed at its end. The host of an item is often that of the page, and its
-/// via the page, which are then not read anew.
-pub fn read_line(alloc: Global, page: Option<&Page>, text: &[u8]) -> Result<Line, Misread>
-    requires { IfSome page (λ page. IsPage page.now) }
-    ensures { Reads (IsLineOf text.now) result }
-{
-    let mut parts = Parts::of(b' ', text);
-    let tag = parts.next()?;
-    let line = tagged_line(alloc, page, tag, &mut parts)?;
-    parts.end()?;
-    Ok(line)
 }

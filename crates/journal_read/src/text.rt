@@ -1,38 +1,21 @@
 // Texts of visible bytes, and addresses.
-ghost use Rattle.std.specs.Prelude.{◌≡◌, ℕ, IsTrue, IfOk, IfSome, MatchOption};
-ghost use Rattle.std.specs.List.{list_all};
-ghost use Rattle.crawl_kinds.specs.Address.{IsUri};
+ghost use Rattle.std.specs.Prelude.{◌≡◌, ℕ, IsTrue, MatchOption};
 ghost use Rattle.crawl_kinds.specs.Text.{is_visible, is_text};
-ghost use Rattle.uri_form.specs.Named.{IsNamed, IsSite};
+ghost use Rattle.uri_form.specs.Named.{IsNamed};
 ghost use Rattle.journal_valid.specs.Items.{IsAddress};
 ghost use Rattle.journal_read.specs.Reading.{AreVisible, Reads};
 
 use crate::fault::Misread;
-use crawl_kinds::{NoMemory, Text, TextFault, TextForm, Uri};
+use crate::hosts::Hosts;
+use crawl_kinds::{Text, TextFault, TextForm, Uri};
 use std::alloc::Global;
 use std::str;
-use uri_form::{Named, Site, UriFault, named_on, named_uri, parse_uri};
+use uri_form::Named;
 
-/// A visible character of ASCII: no space, no control byte.
-fn is_visible(byte: u8) -> bool
-    ensures { result ≡ is_visible byte }
+/// The text of bytes, which those that are all visible have.
+pub fn str_of(bytes: &[u8]) -> Option<&str>
+    ensures { MatchOption result (AreVisible bytes.now → ⊥) (λ text. text.now ≡ bytes.now) }
 {
-    b'!' <= byte && byte <= b'~'
-}
-
-fn are_visible(bytes: &[u8]) -> bool
-    ensures { result ≡ list_all is_visible bytes.now }
-{
-    bytes.iter().all(|b| is_visible(*b))
-}
-
-/// The text of visible bytes.
-pub fn visible(bytes: &[u8]) -> Option<&str>
-    ensures { MatchOption result (AreVisible bytes.now → ⊥) (λ text. (text.now ≡ bytes.now) × AreVisible bytes.now) }
-{
-    if !are_visible(bytes) {
-        return None;
-    }
     match str::from_utf8(bytes) {
         Ok(text) => Some(text),
         Err(_) => None,
@@ -44,7 +27,7 @@ pub fn text_of<F: TextForm>(alloc: Global, bytes: &[u8]) -> Result<Text<F>, Misr
     requires { (b : ℕ) → IsTrue (F.allowed b) → IsTrue (is_visible b) }
     ensures { Reads (λ text. (text ≡ bytes.now) × IsTrue (is_text F.allowed F.most bytes.now)) result }
 {
-    let Some(text) = visible(bytes) else {
+    let Some(text) = str_of(bytes) else {
         return Err(Misread::Bad);
     };
     match Text::new(alloc, text) {
@@ -55,43 +38,26 @@ pub fn text_of<F: TextForm>(alloc: Global, bytes: &[u8]) -> Result<Text<F>, Misr
 }
 
 /// The address that bytes are, in the form in which it is written.
-pub fn address_of(alloc: Global, bytes: &[u8]) -> Result<Uri, Misread>
+pub fn address_of(alloc: Global, hosts: &mut Hosts, bytes: &[u8]) -> Result<Uri, Misread>
     ensures { Reads (λ uri. (uri ≡ bytes.now) × IsAddress bytes.now) result }
 {
-    let Some(text) = visible(bytes) else {
+    let Some(text) = str_of(bytes) else {
         return Err(Misread::Bad);
     };
-    let uri = match parse_uri(alloc, text) {
-        Ok(uri) => uri,
-        Err(UriFault::NoMemory) => return Err(Misread::NoMemory),
-        Err(_) => return Err(Misread::Bad),
-    };
-    if uri.as_str() == text {
-        return Ok(uri);
-    }
-    Err(Misread::Bad)
-}
-
-/// The address that a text is, with its names.
-fn found_on(alloc: Global, site: Option<&Site>, text: &str) -> Result<Option<Named>, NoMemory>
-    requires { IfSome site (λ site. IsSite site.now) }
-    ensures { IfOk result (λ found. MatchOption found (IsUri text.now → ⊥) (IsNamed text.now)) }
-{
-    match site {
-        Some(site) => named_on(alloc, site, text),
-        None => named_uri(alloc, text),
+    match hosts.uri(alloc, text)? {
+        Some(uri) => Ok(uri),
+        None => Err(Misread::Bad),
     }
 }
 
-/// The address that bytes are, in the form in which it is written, with its names. It is often one of the site.
-pub fn named_of(alloc: Global, site: Option<&Site>, bytes: &[u8]) -> Result<Named, Misread>
-    requires { IfSome site (λ site. IsSite site.now) }
+/// The address that bytes are, in the form in which it is written, with its names. Its host is often one that is known.
+pub fn named_of(alloc: Global, hosts: &mut Hosts, bytes: &[u8]) -> Result<Named, Misread>
     ensures { Reads (λ named. IsNamed bytes.now named × IsAddress bytes.now) result }
 {
-    let Some(text) = visible(bytes) else {
+    let Some(text) = str_of(bytes) else {
         return Err(Misread::Bad);
     };
-    match found_on(alloc, site, text)? {
+    match hosts.named(alloc, text)? {
         Some(named) => Ok(named),
         None => Err(Misread::Bad),
     }

@@ -1,6 +1,0 @@
-use Rattle.journal_read.specs.Reading.{left}
-use Rattle.journal_read.proofs.Tagged.{add_out}
-use Rattle.journal_read.proofs.read_line.add_line.Goals as goal
-
-pub returns-in-Err : goal.returns-in-Err
-returns-in-Err c = add_out (left c.args.parts.now) (left c.take_add.new.parts) c.in-Err.fault c.in-Err.ensures
