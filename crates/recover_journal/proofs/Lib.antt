@@ -1,0 +1,4 @@
+pub mod BlockLists
+pub mod OneFile
+pub mod Resting
+pub mod Walking
