@@ -99,7 +99,7 @@ fn what_is_no_whole_response_is_a_failure(rt: HostRuntime) -> Result<(), Fail> {
         "",
         "HTTP/1.1 200",
         "HTTP/1.1 200 OK\r\nContent-Length: 3\r\n\r\nhi",
-        "HTTP/1.1 404 Not Found\r\nContent-Length: 2\r\n\r\nhi",
+        "HTTP/1.1 304 Not Modified\r\nContent-Length: 2\r\n\r\nhi",
         "HTTP/1.1 204 No Content\r\nContent-Length: 0\r\n\r\n",
         "HTTP/1.1 200 OK\r\nContent-Length: 2\r\nContent-Length: 2\r\n\r\nhi",
         "HTTP/1.1 200 OK\r\nTransfer-Encoding: chunked\r\nContent-Length: 2\r\n\r\nhi",
@@ -111,6 +111,8 @@ fn what_is_no_whole_response_is_a_failure(rt: HostRuntime) -> Result<(), Fail> {
     long.resize(65_600, b'x')?;
     long.extend_from_slice(b"\r\nContent-Length: 2\r\n\r\nhi")?;
     ends(&rt, alloc, &long, "-404 http://a.test/\n", 0)?;
+    let missing = "HTTP/1.1 404 Not Found\r\nContent-Length: 2\r\n\r\nhi";
+    ends(&rt, alloc, missing.as_bytes(), "404 http://a.test/\n", 407)?;
     let more = "HTTP/1.1 200 OK\r\nContent-Length: 2\r\n\r\nhi!";
     ends(&rt, alloc, more.as_bytes(), "200 http://a.test/\n", 400)
 }

@@ -62,7 +62,7 @@ module _ (w : World) (at : ℕ) (uri : List ℕ) (before after : List Exchange) 
     went = went;
   }
 
-  pub failed_by : (fault : LinkFault) → end ≡ failed too_many_tries (code_of fault) span → bytes ≡ [] → w.rose fault → (IsTrue w.tells → IsBegun uri before after) → Ended w at uri before after end bytes
+  pub failed_by : (fault : LinkFault) → end ≡ failed too_many_tries (code_of fault) span → bytes ≡ [] → w.rose fault → (IsTrue w.tells → IsBegun uri w.settings before after) → Ended w at uri before after end bytes
   failed_by fault is nothing rises begun = elim (cases_Bool w.tells) [
     | inl tells ↦ elim (begun tells) [
       | inl same ↦ lost fault is nothing rises [] (omega arith) (λ _. same ∙ sym (append-nil before))

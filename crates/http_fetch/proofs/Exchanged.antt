@@ -1,14 +1,15 @@
 -- From the steps of a link to the exchange that they leave, and from what was read to the reply.
-use Rattle.std.proofs.Common.{◌≡◌, ◌⊎◌, inl, inr, ℕ, ◌+◌, ◌≤◌, Bool, false, List, [], ◌∷◌, ◌++◌, length, drop, Option, Some, None, Result, Ok, Err, IfOk, OnErr, IfSome, ap, ◌∙◌, sym, subst, arith, length-append}
+use Rattle.std.proofs.Common.{◌≡◌, ℕ, ◌+◌, ◌≤◌, Bool, List, [], ◌∷◌, ◌++◌, length, drop, Option, Some, None, Result, Ok, Err, IfOk, OnErr, IfSome, ap, ◌∙◌, sym, subst, arith, length-append}
 use Rattle.crawl_kinds.specs.declared.settings.Settings.{Settings}
 use Rattle.crawl_traits.specs.declared.link.Exchange.{Exchange}
 use Rattle.crawl_traits.specs.Exchanges.{opened, taking, giving, with_last}
 use Rattle.http_fetch.proofs.Last.{with_last-end}
-use Rattle.http_fetch.specs.Fetching.{IsBegun, IsReplyIn, Suits}
+use Rattle.http_fetch.specs.Fetching.{IsReplyIn, Suits}
 use Rattle.http_fetch.specs.Reading.{Reads}
 use Rattle.http_message.specs.declared.front.Reply.{Reply}
 use Rattle.httparse.specs.Grammar.{print_response}
-use Rattle.page_spec.specs.Request.{host_in, port_in, request_text}
+use Rattle.page_spec.specs.Peer.{peer_host, peer_port}
+use Rattle.page_spec.specs.Request.{request_text}
 use Rattle.page_spec.specs.Response.{BeginsWith, IsReplyOf}
 
 -- of the value, if there is one, a consequence
@@ -33,7 +34,7 @@ renamed host name port old after same made = made ∙ ap (λ h. old ++ opened h 
 
 -- an exchange that took the request and gave what was read suits the reply
 pub suits : (uri : List ℕ) (settings : Settings) (host : List ℕ) (port : ℕ) (text given : List ℕ) (ended : Bool)
-    (block : Option (List ℕ)) (reply : Option Reply) → host ≡ host_in uri → port ≡ port_in uri → text ≡ request_text uri settings
+    (block : Option (List ℕ)) (reply : Option Reply) → host ≡ peer_host settings.proxy uri → port ≡ peer_port settings.proxy uri → text ≡ request_text uri settings
     → Reads settings.max_response_bytes given ended block → IsReplyIn settings.max_response_bytes block reply
     → Suits uri settings (giving given ended (taking text (opened host port))) reply
 suits uri settings host port text given ended None None h p t reads is =
@@ -47,14 +48,6 @@ suits uri settings host port text given ended (Some block) (Some reply) h p t re
   },
   is.1,
 )
-
--- what was begun has the address's host and port
-pub begun : (uri host : List ℕ) (port : ℕ) (old new : List Exchange) → host ≡ host_in uri → port ≡ port_in uri
-    → (new ≡ old) ⊎ ((taken : List ℕ) × (given : List ℕ) × (new ≡ old ++ giving given false (taking taken (opened host port)) ∷ []))
-    → IsBegun uri old new
-begun uri host port old new h p (inl same) = inl same
-begun uri host port old new h p (inr (taken, given, made)) =
-    inr (giving given false (taking taken (opened host port)), record { host = h; port = p }, made)
 
 -- the reply is that of its own block
 pub is_reply : (limit : ℕ) (block : Option (List ℕ)) (reply : Option Reply) → IsReplyIn limit block reply

@@ -1,7 +1,7 @@
 -- What a fetch leaves.
 --     IsSpanOf gives span      the span is made of two moments that the clock gives
 --     Suits uri settings e reply      the exchange was answered by the reply's block, or unanswered
---     IsBegun uri before after      no connection more, or one to the address's host and port
+--     IsBegun uri settings before after      no connection more, or one to the address's host and port, or the proxy's
 use Rattle.std.specs.Prelude.{◌≡◌, ◌⊎◌, ℕ, ◌-◌, min, List, [], ◌∷◌, ◌++◌, Option, Some, None}
 use Rattle.crawl_kinds.specs.declared.event.Fetch.{Fetch}
 use Rattle.crawl_kinds.specs.declared.settings.Settings.{Settings}
@@ -30,10 +30,10 @@ Suits uri settings e (Some reply) =
     Answered uri settings e reply.block
     × IsReplyOf settings.max_response_bytes reply.block reply.status reply.media reply.head_len
 
--- no exchange came, or one with the address's host and port
-abbrev pub IsBegun : List ℕ → List Exchange → List Exchange → Type 0
-IsBegun uri before after =
-    (after ≡ before) ⊎ ((e : Exchange) × IsTo uri e × (after ≡ before ++ e ∷ []))
+-- no exchange came, or one with the address's host and port, or the proxy's
+abbrev pub IsBegun : List ℕ → Settings → List Exchange → List Exchange → Type 0
+IsBegun uri settings before after =
+    (after ≡ before) ⊎ ((e : Exchange) × IsTo uri settings e × (after ≡ before ++ e ∷ []))
 
 -- the reply is that of the block, where there is one
 abbrev pub IsReplyIn : ℕ → Option (List ℕ) → Option Reply → Type 0

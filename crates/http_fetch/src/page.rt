@@ -1,12 +1,13 @@
 // One exchange, from the request to the reply.
-ghost use Rattle.std.specs.Prelude.{◌≡◌, ◌≤◌, ◌++◌, ◌∷◌, [], ℕ, Bool, List, IsTrue, IfOk, IfErr, IfSome, OnOk, OnErr, Ok, Err, None, codes, false, length, min, string_bytes, ◌⊎◌};
+ghost use Rattle.std.specs.Prelude.{◌≡◌, ◌≤◌, ◌++◌, ◌∷◌, [], ℕ, Bool, List, IsTrue, IfOk, IfErr, IfSome, OnOk, OnErr, Ok, Err, false, length, min, string_bytes, ◌⊎◌};
 ghost use Rattle.crawl_kinds.specs.Address.{IsUri};
 ghost use Rattle.crawl_traits.specs.Causes.{Rose};
 ghost use Rattle.crawl_traits.specs.Exchanges.{giving, opened, taking, with_last};
 ghost use Rattle.crawl_traits.specs.declared.link.Exchange.{Exchange};
 ghost use Rattle.http_fetch.specs.Fetching.{IsBegun, IsReplyIn, IsSpanOf, Suits, latest};
 ghost use Rattle.http_fetch.specs.Reading.{Reads};
-ghost use Rattle.page_spec.specs.Request.{host_in, port_in, request_text, scheme_in};
+ghost use Rattle.page_spec.specs.Peer.{is_supported, peer_host, peer_port};
+ghost use Rattle.page_spec.specs.Request.{request_text};
 ghost use Rattle.page_spec.specs.Response.{IsReplyOf, IsWhole};
 
 use crate::receive::{Stopped, receive};
@@ -125,9 +126,10 @@ fn reply_of(alloc: Global, block: Option<Listed<u8>>, limit: u64) -> Result<Opti
     }
 }
 
-/// Fetches an address of scheme http over a link: it connects to the host and port of the address, gives the link the
-/// whole request, and reads the response up to `max_response_bytes`. It waits at most `timeout_ms` milliseconds for the
-/// connection. The connection is closed at the end. Proxies come later.
+/// Fetches an address over a link, one of scheme http or, through a proxy, of any: it connects to the host and port of the
+/// address, or to those of the proxy where the settings name one, gives the link the whole request, and reads the response
+/// up to `max_response_bytes`. It waits at most `timeout_ms` milliseconds for the connection. The connection is closed at
+/// the end.
 ///
 /// The reply is there where the bytes given begin with a whole response of the form that is read. It fails with the
 /// link's fault, only where the link's count of that fault rose, or for want of memory. Memory that is wanting before
@@ -140,14 +142,13 @@ pub fn fetch<L: Link, C: Clock>(
     settings: &Settings,
 ) -> Result<Fetched, FetchStop>
     requires uri { IsUri uri.now }
-    requires http { scheme_in uri.now ≡ codes "http" }
-    requires direct { settings.now.proxy ≡ None }
+    requires supported { IsTrue (is_supported settings.now uri.now) }
     ensures request { IfOk result (λ f. f.request ≡ request_text uri.now settings.now) }
     ensures exchange { IsTrue (L.tells link.old) → IfOk result (λ f. (e : Exchange)
         × (L.exchanges link.new ≡ L.exchanges link.old ++ e ∷ []) × Suits uri.now settings.now e f.reply) }
     ensures reply { IfOk result (λ f. IfSome f.reply (λ reply. IsReplyOf settings.now.max_response_bytes reply.block reply.status reply.media reply.head_len)) }
     ensures head { IfOk result (λ f. IfSome f.reply (λ reply. reply.head_len ≤ length reply.block)) }
-    ensures begun { IsTrue (L.tells link.old) → OnErr result (IsBegun uri.now (L.exchanges link.old) (L.exchanges link.new)) }
+    ensures begun { IsTrue (L.tells link.old) → OnErr result (IsBegun uri.now settings.now (L.exchanges link.old) (L.exchanges link.new)) }
     ensures span { IfOk result (λ f. IsSpanOf (C.gives clock.now) f.span) }
     ensures stop_span { (fault : LinkFault) (span : Fetch) → result ≡ Err (FetchStop.Link fault span) → IsSpanOf (C.gives clock.now) span }
     ensures failed { (fault : LinkFault) (span : Fetch) → result ≡ Err (FetchStop.Link fault span) → Rose (L.faults link.old fault) (L.faults link.new fault) }
@@ -157,7 +158,7 @@ pub fn fetch<L: Link, C: Clock>(
     ensures stop_shut { (fault : LinkFault) (span : Fetch) → result ≡ Err (FetchStop.Link fault span) → IsTrue (L.tells link.old) → L.connected link.new ≡ false }
     ensures starved { result ≡ Err FetchStop.NoMemory → IsTrue (L.tells link.old) → (L.connected link.new ≡ false) ⊎ (link.new ≡ link.old) }
 {
-    let Ok(peer) = peer_of(alloc, uri) else {
+    let Ok(peer) = peer_of(alloc, uri, settings) else {
         return Err(FetchStop::NoMemory);
     };
     let Ok(request) = request_bytes(alloc, uri, settings) else {

@@ -59,14 +59,14 @@ fn all_digits(text: &[u8]) -> bool
 }
 
 /// 1 to 18 decimal digits.
-fn is_count(text: &[u8]) -> bool
+pub(crate) fn is_count(text: &[u8]) -> bool
     ensures { result ≡ is_count text.now }
 {
     1 <= text.len() && text.len() <= 18 && all_digits(text)
 }
 
 /// The number that digits write.
-fn number(text: &[u8]) -> usize
+pub(crate) fn number(text: &[u8]) -> usize
     requires { IsTrue (is_count text.now) }
     ensures { result ≡ digits_value 10 text.now }
 {
@@ -77,11 +77,11 @@ fn number(text: &[u8]) -> usize
     n
 }
 
-/// A status of a success with a body: 200 to 299, but not 204 (RFC 9110 section 15.3).
+/// A status of a response with a body that is read: 200 to 599, but neither 204 nor 304 (RFC 9110 section 6.4.1).
 fn is_page(status: u16) -> bool
     ensures { result ≡ is_page status }
 {
-    200 <= status && status <= 299 && status != 204
+    200 <= status && status <= 599 && !(status == 204 || status == 304)
 }
 
 /// The length that a head's one Content-Length field gives (RFC 9112 section 6.3), in bytes.

@@ -23,7 +23,7 @@ pub enum Front {
 }
 
 /// What bytes say of the whole response that they begin with. It has at most so many bytes, and is of the narrow form:
-/// a status from 200 to 299 but 204, no Transfer-Encoding, one Content-Length of 1 to 18 digits.
+/// a status from 200 to 599 but 204 and 304, no Transfer-Encoding, one Content-Length of 1 to 18 digits.
 pub fn read_front(bytes: &[u8], limit: u64) -> Front
     ensures expects { (total : ℕ) → result ≡ Front.Expects total → Expects limit bytes.now total }
     ensures never { result ≡ Front.Never → NeverWhole limit bytes.now }

@@ -6,6 +6,7 @@ mod front;
 mod head;
 mod head_fields;
 mod media;
+mod peer;
 mod reading;
 mod request;
 
@@ -15,7 +16,8 @@ pub use head_fields::{
     FieldValues, HeadField, HeadFields, WholeHead, field_values, media_type, read_fields,
 };
 pub use media::trim;
-pub use request::{Peer, peer_of, request_bytes};
+pub use peer::{Peer, is_supported, peer_of};
+pub use request::request_bytes;
 
 #[cfg(test)]
 mod tests;

@@ -1,36 +1,13 @@
-// The request for an address, and where it is sent.
-ghost use Rattle.std.specs.Prelude.{◌≡◌, ◌++◌, codes, string_bytes, unwrap_or, IfOk, OnOk};
+// The request for an address.
+ghost use Rattle.std.specs.Prelude.{◌≡◌, ◌++◌, codes, string_bytes, IfOk, OnOk};
 ghost use Rattle.crawl_kinds.specs.Address.{IsUri};
-ghost use Rattle.page_spec.specs.Request.{agent_line, host_in, host_of, line, port_in, request_text, target_of};
+ghost use Rattle.page_spec.specs.Request.{agent_line, host_of, line, request_text, target_of};
 ghost use Rattle.uri_spec.specs.Surt.{port_text};
 
 use crate::reading::url_of;
 use crawl_kinds::{NoMemory, Settings, Uri};
 use std::alloc::Global;
 use url::{Position, Url};
-
-/// The port of http where an address writes none (RFC 9110 section 4.2.1).
-const HTTP_PORT: u16 = 80;
-
-/// The server of an address.
-#[derive(Drop)]
-pub struct Peer {
-    /// The host as the address writes it, an IPv6 address between brackets.
-    pub host: String,
-    pub port: u16,
-}
-
-/// The host and the port to connect to for an address. It fails for want of memory alone.
-pub fn peer_of(alloc: Global, uri: &Uri) -> Result<Peer, NoMemory>
-    requires { IsUri uri.now }
-    ensures host { IfOk result (λ peer. string_bytes peer.host ≡ host_in uri.now) }
-    ensures port { IfOk result (λ peer. peer.port ≡ port_in uri.now) }
-{
-    let url = url_of(alloc, uri)?;
-    let port = url.port().unwrap_or(HTTP_PORT);
-    let host = String::from_str(alloc, url.slice(Position::BeforeHost, Position::AfterHost))?;
-    Ok(Peer { host, port })
-}
 
 /// Puts what is asked for at the end of a text.
 fn push_target(out: &mut String, url: &Url, settings: &Settings) -> Result<(), NoMemory>

@@ -35,6 +35,10 @@ fn fronts_of_responses(rt: HostRuntime) -> Result<(), Fail> {
     );
     assert_eq!(rt;
         front(b"HTTP/1.1 404 Not Found\r\nContent-Length: 2\r\n\r\nhi"),
+        Front::Expects(47)
+    );
+    assert_eq!(rt;
+        front(b"HTTP/1.1 304 Not Modified\r\nContent-Length: 2\r\n\r\nhi"),
         Front::Never
     );
     assert_eq!(rt;

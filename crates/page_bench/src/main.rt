@@ -2,15 +2,15 @@
 //! WARC record, so many times over, and prints how many bytes the records have.
 #![tactic(auto)]
 
-ghost use Rattle.std.specs.Prelude.{◌≡◌, IfOk, codes, None};
-ghost use Rattle.std.specs.Bool.{OnTrue};
+ghost use Rattle.std.specs.Prelude.{IsTrue};
 ghost use Rattle.crawl_kinds.specs.Address.{IsUri};
-ghost use Rattle.page_spec.specs.Request.{scheme_in};
+ghost use Rattle.page_spec.specs.Peer.{is_supported};
 
 use anyhow::{Context, bail};
 use crawl_kinds::{Key, Listed, NoMemory, Settings, TextFault, Uri};
 use crawl_memory::{MemClock, MemLink, Page};
 use http_fetch::{FetchStop, fetch};
+use http_message::is_supported;
 use record_spec::Naming;
 use std::alloc::{AllocError, AllocFailed, Global};
 use std::env;
@@ -24,7 +24,7 @@ const ADDRESS: &str = "http://bench.test/page";
 #[derive(Clone, Copy, Debug)]
 enum Fault {
     Address(UriFault),
-    /// The address is not of scheme http.
+    /// The address is not of scheme http, and there is no proxy.
     OtherScheme,
     Text(TextFault),
     Fetch(FetchStop),
@@ -70,9 +70,7 @@ impl<T: Drop> From<AllocFailed<T>> for Fault {
 }
 
 /// The settings of the fetches: no proxy.
-fn settings(alloc: Global) -> Result<Settings, TextFault>
-    ensures { IfOk result (λ settings. settings.proxy ≡ None) }
-{
+fn settings(alloc: Global) -> Result<Settings, TextFault> {
     Ok(Settings {
         name: Key::new(alloc, "bench")?,
         agent: Key::new(alloc, "bench")?,
@@ -95,14 +93,6 @@ fn settings(alloc: Global) -> Result<Settings, TextFault>
         warc_max_bytes: 1_000_000_000,
         checkpoint_finishes: 10_000,
     })
-}
-
-/// Whether an address begins as one of scheme http does.
-fn is_plain(uri: &Uri) -> bool
-    requires { IsUri uri.now }
-    ensures { OnTrue result (scheme_in uri.now ≡ codes "http") }
-{
-    uri.as_bytes().starts_with(b"http://")
 }
 
 /// A response with a body of so many bytes.
@@ -134,8 +124,7 @@ fn record(
     place: &Naming,
 ) -> Result<Vec<u8>, Fault>
     requires uri { IsUri uri.now }
-    requires http { scheme_in uri.now ≡ codes "http" }
-    requires direct { settings.now.proxy ≡ None }
+    requires supported { IsTrue (is_supported settings.now uri.now) }
 {
     let fetched = fetch(alloc, link, clock, uri, settings)?;
     let Some(reply) = &fetched.reply else {
@@ -150,10 +139,10 @@ fn record(
 /// Makes the record of a page so many times over, and counts the records' bytes.
 fn records(alloc: Global, size: usize, rounds: u64) -> Result<u64, Fault> {
     let uri = parse_uri(alloc, ADDRESS)?;
-    if !is_plain(&uri) {
+    let settings = settings(alloc)?;
+    if !is_supported(&uri, &settings) {
         return Err(Fault::OtherScheme);
     }
-    let settings = settings(alloc)?;
     let place = Naming {
         job: Key::new(alloc, "bench")?,
         file: 0,

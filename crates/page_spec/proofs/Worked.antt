@@ -6,7 +6,7 @@ use Rattle.url.proofs.InputLemmas.{All_from_list_all}
 use Rattle.httparse.specs.Grammar.{Field, crlf, IsField, is_token_byte, is_value_byte}
 use Rattle.url.proofs.OnLiterals.{url_on_literals}
 use Rattle.httparse.proofs.OnLiterals.{httparse_on_literals}
-use Rattle.page_spec.specs.Worked.{AreRequests, AreResponses, head_with, response_with}
+use Rattle.page_spec.specs.Worked.{ArePeers, AreRequests, AreResponses, head_with, response_with}
 use Rattle.page_spec.specs.Response.{IsWholeOf}
 
 pub requests : AreRequests
@@ -23,6 +23,23 @@ requests = record {
   port_number = refl;
   port_default = refl;
   scheme = refl;
+}
+
+pub peers : ArePeers
+unfolding url_on_literals
+peers = record {
+  own_host = refl;
+  own_port = refl;
+  proxy_host = refl;
+  proxy_port = refl;
+  no_colon = refl;
+  no_port = refl;
+  no_number = refl;
+  greatest = refl;
+  too_great = refl;
+  plain = refl;
+  alone = refl;
+  through = refl;
 }
 
 only : Field
@@ -65,8 +82,12 @@ responses = record {
   signed = refl;
   long = refl;
   missing = refl;
+  before = refl;
   no_content = refl;
+  not_modified = refl;
   not_found = refl;
+  last = refl;
+  behind = refl;
   media_plain = refl;
   media_param = refl;
   media_bad = refl;

@@ -2,7 +2,7 @@
 --     values_of name fields      the values of the fields of a name
 --     announced status fields      how many bytes of body are announced, where the response is of the form that is read
 --     media_of fields      the media type
-use Rattle.std.specs.Prelude.{ℕ, Bool, true, false, not, ◌&&◌, ◌==◌, nat_le, List, [], ◌∷◌, length, codes, filter, map, Option, Some, None, if◌then◌else◌}
+use Rattle.std.specs.Prelude.{ℕ, Bool, true, false, not, ◌&&◌, ◌||◌, ◌==◌, nat_le, List, [], ◌∷◌, length, codes, filter, map, Option, Some, None, if◌then◌else◌}
 use Rattle.std.specs.Char.{is_ascii_digit}
 use Rattle.std.specs.List.{list_all, before_first, after_first}
 use Rattle.std.specs.Str.{str_eq_ignore_ascii_case}
@@ -34,9 +34,10 @@ one_count [] = None
 one_count (text ∷ []) = if is_count text then Some (digits_value 10 text) else None
 one_count (text ∷ other ∷ more) = None
 
--- the status of a success with a body: 200 to 299, but not 204
+-- the status of a response with a body that is read: 200 to 599, but neither 204 nor 304, which have none (RFC 9110
+-- section 6.4.1)
 abbrev pub is_page : ℕ → Bool
-is_page status = nat_le 200 status && (nat_le status 299 && not (status == 204))
+is_page status = nat_le 200 status && (nat_le status 599 && not (status == 204 || status == 304))
 
 -- no value stands there
 abbrev pub is_absent : List (List ℕ) → Bool

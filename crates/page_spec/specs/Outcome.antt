@@ -1,21 +1,22 @@
 -- How an exchange for an address ended, by the bytes that went over its connection.
---     IsSent uri settings e      it went to the address's host and port and took the whole request
+--     IsSent uri settings e      it went to the address's host and port, or to the proxy's, and took the whole request
 --     Answered uri settings e block      and the bytes given begin with this whole response
 --     Unanswered uri settings e      and they begin with none, nor ever will
 use Rattle.std.specs.Prelude.{◌≡◌, ◌⊎◌, ℕ, true, List}
 use Rattle.crawl_kinds.specs.declared.settings.Settings.{Settings}
 use Rattle.crawl_traits.specs.declared.link.Exchange.{Exchange}
-use Rattle.page_spec.specs.Request.{host_in, port_in, request_text}
+use Rattle.page_spec.specs.Peer.{peer_host, peer_port}
+use Rattle.page_spec.specs.Request.{request_text}
 use Rattle.page_spec.specs.Response.{BeginsWith, BeginsWhole, NeverWhole}
 
--- the connection was to the host and port of the address
-pub record IsTo (uri : List ℕ) (e : Exchange) : Type 0 where
-  pub host : e.host ≡ host_in uri
-  pub port : e.port ≡ port_in uri
+-- the connection was to the host and port of the proxy where there is one, else to those of the address
+pub record IsTo (uri : List ℕ) (settings : Settings) (e : Exchange) : Type 0 where
+  pub host : e.host ≡ peer_host settings.proxy uri
+  pub port : e.port ≡ peer_port settings.proxy uri
 
 -- and the request was taken whole
 pub record IsSent (uri : List ℕ) (settings : Settings) (e : Exchange) : Type 0 where
-  pub to : IsTo uri e
+  pub to : IsTo uri settings e
   pub taken : e.taken ≡ request_text uri settings
 
 -- the bytes given begin with this whole response

@@ -1,4 +1,4 @@
--- The request for an address (RFC 9112 sections 2 and 3), and where it is sent.
+-- The request for an address (RFC 9112 sections 2 and 3), and the server of the address.
 use Rattle.std.specs.Prelude.{ℕ, List, [], ◌∷◌, ◌++◌, codes, Option, Some, None, Ok, Err, unwrap_or, flat_map}
 use Rattle.crawl_kinds.specs.Address.{without_fragment}
 use Rattle.crawl_kinds.specs.declared.settings.Settings.{Settings}
@@ -50,11 +50,11 @@ request_of settings url = flat_map line (request_lines settings url)
 abbrev pub request_text : List ℕ → Settings → List ℕ
 request_text text settings = of_parsed (request_of settings) (parse_url None text)
 
--- the host to connect to for an address
+-- the host of an address
 abbrev pub host_in : List ℕ → List ℕ
 host_in text = of_parsed host_of (parse_url None text)
 
--- the port to connect to for an address
+-- the port of an address
 abbrev pub port_in : List ℕ → ℕ
 port_in text = elim (parse_url None text) [ Ok url ↦ port_of url | Err fault ↦ 80 ]
 

@@ -1,8 +1,9 @@
 -- Worked examples of the definitions.
-use Rattle.std.specs.Prelude.{◌≡◌, ℕ, List, [], ◌∷◌, ◌++◌, codes, Option, Some, None}
+use Rattle.std.specs.Prelude.{◌≡◌, ℕ, true, false, List, [], ◌∷◌, ◌++◌, codes, Option, Some, None}
 use Rattle.crawl_kinds.specs.declared.settings.Settings.{Settings}
 use Rattle.httparse.specs.Grammar.{ResponseHead, crlf}
 use Rattle.page_spec.specs.Fields.{Pair, announced, media_of}
+use Rattle.page_spec.specs.Peer.{is_supported, peer_host, peer_port}
 use Rattle.page_spec.specs.Request.{host_in, line, port_in, request_text, scheme_in}
 use Rattle.page_spec.specs.Response.{IsWholeOf, fields_of}
 
@@ -61,6 +62,24 @@ pub record AreRequests : Type 0 where
   pub port_default : port_in (codes "http://a.test/") ≡ 80
   pub scheme : scheme_in (codes "HTTP://a.test/") ≡ codes "http"
 
+-- an address of https, asked for through a proxy or without one
+abbrev secure : List ℕ
+secure = codes "https://a.test:81/"
+
+pub record ArePeers : Type 0 where
+  pub own_host : peer_host None (codes "http://a.test/") ≡ codes "a.test"
+  pub own_port : peer_port None (codes "http://a.test/") ≡ 80
+  pub proxy_host : peer_host (Some (codes "p.test:3128")) secure ≡ codes "p.test"
+  pub proxy_port : peer_port (Some (codes "p.test:3128")) secure ≡ 3128
+  pub no_colon : peer_host (Some (codes "p.test")) secure ≡ codes "p.test"
+  pub no_port : peer_port (Some (codes "p.test")) secure ≡ 80
+  pub no_number : peer_port (Some (codes "p.test:+1")) secure ≡ 80
+  pub greatest : peer_port (Some (codes "p.test:65535")) secure ≡ 65535
+  pub too_great : peer_port (Some (codes "p.test:65536")) secure ≡ 80
+  pub plain : is_supported (settings_of None) (codes "http://a.test/") ≡ true
+  pub alone : is_supported (settings_of None) secure ≡ false
+  pub through : is_supported (settings_of (Some (codes "p.test:3128"))) secure ≡ true
+
 -- the head of a response `200 OK` with one field
 abbrev pub head_with : List ℕ → List ℕ → ResponseHead
 head_with name raw = record {
@@ -93,8 +112,12 @@ pub record AreResponses : Type 0 where
   pub signed : announced 200 (counted (codes "+2") ∷ []) ≡ None
   pub long : announced 200 (counted (codes "0000000000000000002") ∷ []) ≡ None
   pub missing : announced 200 ((codes "Content", codes "2") ∷ []) ≡ None
+  pub before : announced 199 (counted (codes "2") ∷ []) ≡ None
   pub no_content : announced 204 (counted (codes "0") ∷ []) ≡ None
-  pub not_found : announced 404 (counted (codes "2") ∷ []) ≡ None
+  pub not_modified : announced 304 (counted (codes "2") ∷ []) ≡ None
+  pub not_found : announced 404 (counted (codes "2") ∷ []) ≡ Some 2
+  pub last : announced 599 (counted (codes "2") ∷ []) ≡ Some 2
+  pub behind : announced 600 (counted (codes "2") ∷ []) ≡ None
   pub media_plain : media (codes " text/html") ≡ codes "text/html"
   pub media_param : media (codes " Text/HTML \t; charset=utf-8 ") ≡ codes "text/html"
   pub media_bad : media (codes " text") ≡ codes "unknown"
