@@ -1,8 +1,6 @@
-pub mod Counting
-pub mod Folding
-pub mod Keeping
-pub mod Lists
-pub mod Places
+pub mod Kept
+pub mod Ordering
+pub mod Permuting
 pub mod Seeded
 pub mod Seeding
-pub mod Taking
+pub mod Standing

@@ -1,5 +1,5 @@
 -- The items of seeds: one seed after another, and against the history.
-use Rattle.std.proofs.Common.{◌≡◌, ℕ, max, Bool, true, false, ◌||◌, not, cond, List, [], ◌∷◌, ◌++◌, map, refl, sym, ◌∙◌, ap, subst, Option, Some, None, arith}
+use Rattle.std.proofs.Common.{◌≡◌, ℕ, Bool, true, false, ◌||◌, not, cond, List, [], ◌∷◌, ◌++◌, map, refl, sym, ◌∙◌, ap, Option, Some, None}
 use Rattle.std.specs.Prelude.{◌&&◌, Result, Ok, Err, OnOk, filter, is_none, bytes_eq, if◌then◌else◌}
 use Rattle.std.specs.List.{list_any, AllByRecursion}
 use Rattle.std.specs.Ordering.{nat_cmp}
@@ -14,18 +14,20 @@ use Rattle.std.proofs.lemmas.Map.Text.{is_eq-slice_cmp}
 use Rattle.crawl_kinds.specs.declared.item.Item.{Item}
 use Rattle.crawl_history.specs.Scans.{distinct, distinct_from}
 use Rattle.crawl_history.specs.Adds.{same_key}
-use Rattle.crawl_history.specs.Places.{has_key, is_absent, place_of}
+use Rattle.crawl_kinds.specs.declared.event.Place.TheVariants as place
+use Rattle.crawl_history.specs.Places.{has_key, is_absent, is_waiting, place_of}
 use Rattle.scope_spec.specs.Decision.{ScopeRules}
 use Rattle.core_facts.specs.CoreFacts.{Pages, is_accepted}
 use Rattle.crawl_history.specs.History.{History}
 use Rattle.crawl_history.specs.Scope.{is_in_scope}
 use Rattle.frontier_core.specs.Core.{Core, history, facts, seed_adds}
-use Rattle.frontier_core.specs.Memory.{Tells, emission, Remembers}
-use Rattle.frontier_core.specs.declared.memo.Memo.{Memo}
-use Rattle.frontier_core.specs.declared.known.Known.TheVariants as known
-use Rattle.frontier_core.proofs.Lists.{all-weaker}
-use Rattle.frontier_core.specs.declared.known.Known.{Known}
-use Rattle.frontier_core.specs.Keeping.{known_at, place_by, waits_by, are_free}
+use Rattle.frontier_memo.specs.Laws.{are_new}
+use Rattle.frontier_memo.specs.Memory.{Remembers}
+use Rattle.frontier_memo.specs.declared.memo.Memo.{Memo}
+use Rattle.frontier_memo.specs.declared.known.Known.TheVariants as known
+use Rattle.frontier_memo.proofs.Lists.{all-weaker}
+use Rattle.frontier_memo.specs.declared.known.Known.{Known}
+use Rattle.frontier_memo.specs.Keeping.{known_at, place_by, are_free}
 use Rattle.frontier_core.specs.SeedItems.{seed_item, is_taken, taken}
 
 -- ---- one element more, each once
@@ -131,7 +133,7 @@ module _ {X Y : Type 0} (g : X → Y) (p q : Y → Bool) where
 
 none_absent : (kept : Option Known) → is_none kept ≡ is_absent (place_by kept)
 none_absent None = refl
-none_absent (Some (known.Waits item)) = refl
+none_absent (Some (known.Waits w)) = refl
 none_absent (Some (known.Done code)) = refl
 
 -- what is taken is what the seeds add, whatever the pages are
@@ -165,16 +167,16 @@ none_of true (Some k) h = cc
 none_of false o h = cc
 
 -- of what is taken nothing is kept
-pub taken_none : (places : BTreeMap (List ℕ) Known) (scope : ScopeRules) (list : List (List ℕ)) → AllByRecursion (λ i. known_at places i.key ≡ None) (taken places scope list)
+taken_none : (places : BTreeMap (List ℕ) Known) (scope : ScopeRules) (list : List (List ℕ)) → AllByRecursion (λ i. known_at places i.key ≡ None) (taken places scope list)
 taken_none places scope list =
     all-distinct_from _ same_key [] _ (all-weaker _ _ (λ i h. none_of (is_accepted scope i.uri i.path) (known_at places i.key) h) _ (filtered (is_taken places scope) (map seed_item list)))
 
--- and no key of it waits when its turn comes
+-- no key waits of items each with its own, of which none waits
 free_distinct :
-    (kept : List ℕ → Option Known) (seen earlier xs : List Item) → ((key : List ℕ) → list_any (has_key key) earlier ≡ list_any (has_key key) seen)
-    → AllByRecursion (λ i. kept i.key ≡ None) (distinct_from same_key seen xs) → are_free kept earlier (distinct_from same_key seen xs) ≡ true
-free_distinct kept seen earlier [] same none = refl
-free_distinct kept seen earlier (x ∷ xs) same none = by_test (list_any (same_key x) seen) refl none (free_distinct kept seen earlier xs same) (free_distinct kept (x ∷ seen) (earlier ++ x ∷ []) xs more)
+    (waits : List ℕ → Bool) (seen earlier xs : List Item) → ((key : List ℕ) → list_any (has_key key) earlier ≡ list_any (has_key key) seen)
+    → AllByRecursion (λ i. waits i.key ≡ false) (distinct_from same_key seen xs) → are_free waits earlier (distinct_from same_key seen xs) ≡ true
+free_distinct waits seen earlier [] same none = refl
+free_distinct waits seen earlier (x ∷ xs) same none = by_test (list_any (same_key x) seen) refl none (free_distinct waits seen earlier xs same) (free_distinct waits (x ∷ seen) (earlier ++ x ∷ []) xs more)
   where
     swap : (a b : Bool) → (a || (b || false)) ≡ (b || a)
     swap true true = refl
@@ -187,33 +189,22 @@ free_distinct kept seen earlier (x ∷ xs) same none = by_test (list_any (same_k
 
     by_test :
         (b : Bool) → list_any (same_key x) seen ≡ b
-        → AllByRecursion (λ i. kept i.key ≡ None) (if b then distinct_from same_key seen xs else x ∷ distinct_from same_key (x ∷ seen) xs)
-        → (AllByRecursion (λ i. kept i.key ≡ None) (distinct_from same_key seen xs) → are_free kept earlier (distinct_from same_key seen xs) ≡ true)
-        → (AllByRecursion (λ i. kept i.key ≡ None) (distinct_from same_key (x ∷ seen) xs) → are_free kept (earlier ++ x ∷ []) (distinct_from same_key (x ∷ seen) xs) ≡ true)
-        → are_free kept earlier (if b then distinct_from same_key seen xs else x ∷ distinct_from same_key (x ∷ seen) xs) ≡ true
+        → AllByRecursion (λ i. waits i.key ≡ false) (if b then distinct_from same_key seen xs else x ∷ distinct_from same_key (x ∷ seen) xs)
+        → (AllByRecursion (λ i. waits i.key ≡ false) (distinct_from same_key seen xs) → are_free waits earlier (distinct_from same_key seen xs) ≡ true)
+        → (AllByRecursion (λ i. waits i.key ≡ false) (distinct_from same_key (x ∷ seen) xs) → are_free waits (earlier ++ x ∷ []) (distinct_from same_key (x ∷ seen) xs) ≡ true)
+        → are_free waits earlier (if b then distinct_from same_key seen xs else x ∷ distinct_from same_key (x ∷ seen) xs) ≡ true
     by_test true is all skipped further = skipped all
     by_test false is all skipped further =
-        ap (λ b. not (b || waits_by (kept x.key)) && are_free kept (earlier ++ x ∷ []) (distinct_from same_key (x ∷ seen) xs)) (same x.key ∙ is)
-        ∙ ap (λ o. not (waits_by o) && are_free kept (earlier ++ x ∷ []) (distinct_from same_key (x ∷ seen) xs)) all.0
+        ap (λ b. not (b || waits x.key) && are_free waits (earlier ++ x ∷ []) (distinct_from same_key (x ∷ seen) xs)) (same x.key ∙ is)
+        ∙ ap (λ b. not b && are_free waits (earlier ++ x ∷ []) (distinct_from same_key (x ∷ seen) xs)) all.0
         ∙ further all.1
 
-pub taken_free : (places : BTreeMap (List ℕ) Known) (scope : ScopeRules) (list : List (List ℕ)) → are_free (known_at places) [] (taken places scope list) ≡ true
-taken_free places scope list = free_distinct (known_at places) [] [] _ (λ key. refl) (taken_none places scope list)
+-- of what is taken each key is nowhere
+pub taken_absent : (h : History) (memo : Memo) → Remembers h memo → (scope : ScopeRules) (list : List (List ℕ)) → AllByRecursion (λ i. place_of h i.key ≡ place.Absent) (taken memo.places scope list)
+taken_absent h memo is scope list =
+    all-weaker _ _ (λ i none. sym (is.places i.key).place ∙ ap place_by none) _ (taken_none memo.places scope list)
 
--- where each key is kept as before, all is remembered as before
-pub kept_same :
-    (h : History) (old new : Memo) → Remembers h old → ((key : List ℕ) → known_at new.places key ≡ known_at old.places key)
-    → new.out.items ≡ old.out.items → new.tickets ≡ old.tickets → new.time ≡ old.time → Remembers h new
-kept_same h old new is same out tickets time =
-    record {
-      places = λ key. subst (Tells h key) (sym (same key)) (is.places key);
-      out = ap (map emission) out ∙ is.out;
-      tickets = tickets ∙ is.tickets;
-      time = time ∙ is.time;
-      given = is.given;
-      ended = is.ended;
-    }
-
--- the time of the next event is no earlier than any
-pub no_earlier : (old time now : ℕ) → time ≡ max old now → time ≡ max old time
-no_earlier old time now is = omega (arith, is)
+pub taken_new : (h : History) (memo : Memo) → Remembers h memo → (scope : ScopeRules) (list : List (List ℕ)) → are_new h (taken memo.places scope list) ≡ true
+taken_new h memo is scope list =
+    free_distinct (λ key. is_waiting (place_of h key)) [] [] _ (λ key. refl)
+    (all-weaker _ _ (λ i none. ap is_waiting none) _ (taken_absent h memo is scope list))

@@ -1,10 +1,15 @@
--- The core of a crawl: its settings, its scope, and its events so far.
+-- The core of a crawl: its settings, its scope, its events so far, and what it keeps of robots files.
 --     history core, facts core pages      their history, and its facts over any pages
+--     robots_at core class      what is kept of the robots file of a class
 --     with_event core e      the core with one event more
 --     next_time core now      the time of an event at a moment
 --     known_count core      how many keys are somewhere
 --     seed_adds core pages list      the items that seeds add
-use Rattle.std.specs.Prelude.{ℕ, min, max, List, [], ◌∷◌, ◌++◌, length}
+use Rattle.std.specs.Prelude.{ℕ, min, max, List, [], ◌∷◌, ◌++◌, length, Option}
+use Rattle.std.specs.BTreeMap.{is_at}
+use Rattle.std.specs.Cmp.Lexicographic.{slice_cmp}
+use Rattle.std.specs.Map.{lookup}
+use Rattle.std.specs.Ordering.{nat_cmp}
 use Rattle.crawl_kinds.specs.declared.settings.Settings.{Settings}
 use Rattle.crawl_kinds.specs.declared.event.TheConstants.{MAX_MS}
 use Rattle.crawl_kinds.specs.declared.event.Event.{Event}
@@ -15,11 +20,14 @@ use Rattle.crawl_history.specs.Facts.{Facts}
 use Rattle.crawl_history.specs.Adds.{seed_candidates, new_items}
 use Rattle.scope_spec.specs.Decision.{ScopeRules}
 use Rattle.core_facts.specs.CoreFacts.{Pages, facts_with}
+use Rattle.frontier_core.specs.declared.robots.KeptRobots.{KeptRobots}
 
 pub record Core : Type 0 where
   pub settings : Settings
   pub scope : ScopeRules
   pub events : List Event
+  -- by class, in byte order
+  pub robots : List (List ℕ × KeptRobots)
 
 -- its events from the start
 abbrev pub history : Core → History
@@ -31,7 +39,11 @@ facts core pages = facts_with core.settings (core.scope ∷ []) pages
 
 -- with one event more
 abbrev pub with_event : Core → Event → Core
-with_event core e = record { settings = core.settings; scope = core.scope; events = core.events ++ e ∷ [] }
+with_event core e = record core { events = core.events ++ e ∷ [] }
+
+-- what is kept of the robots file of this class
+abbrev pub robots_at : Core → List ℕ → Option KeptRobots
+robots_at core class = lookup (is_at (slice_cmp nat_cmp class)) core.robots
 
 -- a moment, cut at the latest one, and no earlier than any event
 abbrev pub next_time : Core → ℕ → ℕ

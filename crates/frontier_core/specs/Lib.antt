@@ -1,7 +1,7 @@
 pub mod Answers
 pub mod Core
-pub mod Fits
-pub mod Keeping
-pub mod Memory
+pub mod Kept
+pub mod Robots
 pub mod SeedItems
-pub mod Taking
+pub mod Standing
+pub mod Waiting

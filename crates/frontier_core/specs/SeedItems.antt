@@ -11,8 +11,8 @@ use Rattle.scope_spec.specs.Decision.{ScopeRules}
 use Rattle.uri_spec.specs.Key.{key_text}
 use Rattle.uri_spec.specs.Surt.{class_text}
 use Rattle.core_facts.specs.CoreFacts.{is_accepted}
-use Rattle.frontier_core.specs.declared.known.Known.{Known}
-use Rattle.frontier_core.specs.Keeping.{known_at}
+use Rattle.frontier_memo.specs.declared.known.Known.{Known}
+use Rattle.frontier_memo.specs.Keeping.{known_at}
 
 -- the item of a seed: its path is empty, and no page names it
 abbrev pub seed_item : List ℕ → Item

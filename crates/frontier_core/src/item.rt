@@ -1,5 +1,5 @@
-// Items: whether two are one, and the item of a seed.
-ghost use Rattle.std.specs.Prelude.{◌≡◌, ◌↔◌, ℕ, List, [], IfOk, IsTrue, Option, bytes_eq, None};
+// The item of a seed.
+ghost use Rattle.std.specs.Prelude.{◌≡◌, [], IfOk};
 ghost use Rattle.crawl_kinds.specs.Address.{IsUri};
 ghost use Rattle.crawl_history.specs.Adds.{rank_of};
 ghost use Rattle.frontier_core.specs.SeedItems.{seed_item};
@@ -7,29 +7,6 @@ ghost use Rattle.frontier_core.specs.SeedItems.{seed_item};
 use crawl_kinds::{Copied, HopPath, Item, Key, NoMemory, TextFault, Uri};
 use std::alloc::Global;
 use uri_form::{canonical_key, class_key};
-
-/// Whether two pages that name an item are one, or neither is there.
-fn same_via(one: &Option<Uri>, other: &Option<Uri>) -> bool
-    ensures { IsTrue result ↔ (one.now ≡ other.now) }
-{
-    match (one, other) {
-        (None, None) => true,
-        (Some(one), Some(other)) => one == other,
-        _ => false,
-    }
-}
-
-/// Whether two items are one.
-pub fn same_item(one: &Item, other: &Item) -> bool
-    ensures { IsTrue result ↔ (one.now ≡ other.now) }
-{
-    one.key == other.key
-        && one.uri == other.uri
-        && one.class == other.class
-        && one.path == other.path
-        && same_via(&one.via, &other.via)
-        && one.rank == other.rank
-}
 
 /// The path of a seed.
 fn no_hops(alloc: Global) -> Result<HopPath, NoMemory>

@@ -1,16 +1,17 @@
 //! The core of a crawl as a state machine over its history: the list of its events, beside what is asked of them most.
 #![tactic(auto)]
 
-mod fold;
 mod frontier;
 mod item;
-mod known;
-mod memo;
+mod robots;
 mod seeds;
 mod stop;
+mod waiting;
 
 pub use frontier::Frontier;
-pub use stop::{FoldFault, FrontierStop};
+pub use frontier_memo::FoldFault;
+pub use robots::standing_laws;
+pub use stop::FrontierStop;
 
 #[cfg(test)]
 mod tests;

@@ -1,18 +1,17 @@
 // What seeds add.
-ghost use Rattle.std.specs.Prelude.{◌≡◌, ◌++◌, ◌∷◌, [], ℕ, List, None, IfOk, OnOk, OnErr, All, if◌then◌else◌};
+ghost use Rattle.std.specs.Prelude.{◌≡◌, ◌++◌, ◌∷◌, [], ℕ, List, IfOk, OnOk, All, if◌then◌else◌};
 ghost use Rattle.std.specs.BTreeSet.{contains};
 ghost use Rattle.std.specs.Cmp.Lexicographic.{slice_cmp};
-ghost use Rattle.std.specs.List.{list_any, AllByRecursion};
+ghost use Rattle.std.specs.List.{list_any};
 ghost use Rattle.std.specs.Ordering.{nat_cmp};
 ghost use Rattle.crawl_kinds.specs.Address.{IsUri};
 ghost use Rattle.core_facts.specs.CoreFacts.{is_accepted};
 ghost use Rattle.crawl_history.specs.Places.{has_key};
-ghost use Rattle.frontier_core.specs.Keeping.{known_at, after_adds};
 ghost use Rattle.frontier_core.specs.SeedItems.{is_taken, taken};
 
 use crate::item::seed_item;
-use crate::known::{Known, learn};
-use crawl_kinds::{Copied, Event, Item, Items, Key, NoMemory, Uri};
+use crawl_kinds::{Copied, Item, Items, Key, NoMemory, Uri};
+use frontier_memo::Known;
 use scope_rules::{Candidate, Decider, Decision, Scope};
 use std::alloc::Global;
 use std::collections::{BTreeMap, BTreeSet};
@@ -84,25 +83,4 @@ pub fn taken(
         }
     }
     Ok(items)
-}
-
-/// Puts an event at the end of the others and what it adds among what waits; for want of memory all is as before.
-pub fn push(
-    events: &mut Vec<Event>,
-    places: &mut BTreeMap<Key, Known>,
-    event: Event,
-    adds: &[Item],
-) -> Result<(), NoMemory>
-    requires { AllByRecursion (λ item. known_at places.old item.key ≡ None) adds.now }
-    ensures ok { OnOk result (events.new.items ≡ events.old.items ++ event ∷ []) }
-    ensures added { OnOk result ((key : List ℕ) → known_at places.new key ≡ after_adds adds.now key (known_at places.old key)) }
-    ensures err { OnErr result (events.new.items ≡ events.old.items) }
-    ensures kept { OnErr result ((key : List ℕ) → known_at places.new key ≡ known_at places.old key) }
-{
-    events.push(event)?;
-    if let Err(stop) = learn(places, adds) {
-        events.pop();
-        return Err(stop);
-    }
-    Ok(())
 }

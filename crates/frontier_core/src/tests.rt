@@ -195,6 +195,33 @@ fn keys_are_nowhere_or_wait_or_are_done(rt: HostRuntime) -> Result<(), Fail> {
     Ok(())
 }
 
+// The addresses of what waits, one a line.
+fn listed(alloc: Global, frontier: &Frontier) -> Result<String, Fail> {
+    let mut text = String::new(alloc);
+    for item in frontier.waiting(alloc)?.as_slice() {
+        text.push_str(item.uri.as_str())?;
+        text.push('\n')?;
+    }
+    Ok(text)
+}
+
+#[test]
+fn what_waits_is_listed_by_class(rt: HostRuntime) -> Result<(), Fail> {
+    let alloc = rt.alloc();
+    let mut events = begun(alloc)?;
+    events.push(added(alloc, &["http://b.test/", "http://a.test/2"])?)?;
+    let frontier = Frontier::fold(alloc, settings(alloc, 9)?, scope(alloc)?, events)?;
+    let text = listed(alloc, &frontier)?;
+    assert_eq!(rt;
+        text.as_str(),
+        "http://a.test/\nhttp://a.test/2\nhttp://b.test/x\nhttp://b.test/\n"
+    );
+    assert_eq!(rt; frontier.tickets(), 0);
+    assert_eq!(rt; frontier.last_time(), START);
+    assert_eq!(rt; frontier.cited_end(), None);
+    Ok(())
+}
+
 // How many items seeds added.
 fn adds_in(event: &Event) -> usize {
     match event {

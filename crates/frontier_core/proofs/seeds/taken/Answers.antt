@@ -7,7 +7,7 @@ use Rattle.std.specs.Ordering.{nat_cmp}
 use Rattle.crawl_kinds.specs.declared.item.Item.{Item}
 use Rattle.crawl_history.specs.Places.{has_key}
 use Rattle.frontier_core.specs.SeedItems.{taken}
-use Rattle.frontier_core.proofs.Keeping.{next_taken}
+use Rattle.frontier_memo.proofs.Keeping.{next_taken}
 use Rattle.frontier_core.proofs.Seeding.{seed_step}
 use Rattle.frontier_core.proofs.seeds.taken.Goals as goal
 use Rattle.frontier_core.proofs.seeds.taken.Goals.{then-branch+in_ok-keep, else-branch+in-Some-1, else-branch+in-None-1}

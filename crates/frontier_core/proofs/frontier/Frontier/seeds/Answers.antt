@@ -1,21 +1,21 @@
-use Rattle.std.proofs.Common.{◌≡◌, ℕ, ◌+◌, ◌-◌, ◌<◌, ◌≤◌, List, [], ◌∷◌, ◌++◌, None, length, refl, sym, ◌∙◌, ap, subst, arith}
-use Rattle.std.specs.List.{AllByRecursion}
+use Rattle.std.proofs.Common.{◌≡◌, ℕ, ◌+◌, ◌-◌, ◌<◌, ◌≤◌, List, length, sym, ◌∙◌, ap, subst, arith}
+use Rattle.crawl_kinds.specs.declared.event.Event.{Event}
 use Rattle.crawl_kinds.specs.declared.event.Event.TheVariants.{Seeds}
 use Rattle.crawl_kinds.specs.declared.item.Item.{Item}
-use Rattle.frontier_core.specs.Core.{Core, next_time, known_count}
+use Rattle.frontier_core.specs.Core.{Core, history, with_event, next_time, known_count}
 use Rattle.frontier_core.specs.Answers.{IsSeeded, IsFull}
-use Rattle.frontier_core.specs.Keeping.{known_at, after_adds}
 use Rattle.frontier_core.specs.SeedItems.{taken}
-use Rattle.frontier_core.proofs.Seeded.{seeds_none, seeds_full, seeds_remembered, seeds_said, seeds_counted}
+use Rattle.frontier_core.proofs.Seeded.{seeds_full, seeds_fit, seeds_said, seeds_counted}
 use Rattle.frontier_core.proofs.frontier.Frontier.seeds.Goals as goal
 use Rattle.frontier_core.proofs.frontier.Frontier.seeds.Goals.{then-most-known-via-then-most-known, then-most-known-via-else-most-known+then-most-known-2}
+use Rattle.frontier_memo.specs.Fits.{Fits}
 
 room_left : (after known count more adds most limit : ℕ) → after ≡ count + adds → known ≡ count → more ≡ adds → known ≤ most → more ≤ most - known → most ≡ limit → after ≤ limit
 room_left after known count more adds most limit grows same len below left is = omega arith
 
 pub returns-then-most-known-clause-full : goal.returns-then-most-known-clause-full
 returns-then-most-known-clause-full c known adds e =
-    let own : Core = record { settings = c.self.inside.settings; scope = c.self.inside.scope; events = c.self.inside.events.items } in
+    let own : Core = record { settings = c.self.inside.settings; scope = c.self.inside.scope; events = c.self.inside.events.items; robots = c.self.inside.robots.entries } in
     let items : c.in_ok-adds.adds ≡ taken c.self.inside.memo.places c.self.inside.scope c.args.list.now = c.in_ok-adds.ensures ∙ ap (λ (l : List (List ℕ)). taken c.self.inside.memo.places c.self.inside.scope l) c.as_slice.ensures in
     let same_known : c.known-known.result ≡ known = cc in
     let same_adds : length c.as_slice-2.result.now ≡ adds = cc in
@@ -28,49 +28,39 @@ returns-then-most-known-clause-full c known adds e =
     ] in
     subst (λ (core : Core). IsFull core c.args.list.now known adds) c.self.view_is (seeds_full own c.self.inside.memo c.args.list.now c.in_ok-adds.adds c.self.invariant items known adds count len past)
 
-pub push-requires : goal.push-requires
-push-requires c =
-    let own : Core = record { settings = c.self.inside.settings; scope = c.self.inside.scope; events = c.self.inside.events.items } in
+pub record-requires : goal.record-requires
+record-requires c =
+    let own : Core = record { settings = c.self.inside.settings; scope = c.self.inside.scope; events = c.self.inside.events.items; robots = c.self.inside.robots.entries } in
     let items : c.in_ok-adds.adds ≡ taken c.self.inside.memo.places c.self.inside.scope c.args.list.now = c.in_ok-adds.ensures ∙ ap (λ (l : List (List ℕ)). taken c.self.inside.memo.places c.self.inside.scope l) c.as_slice.ensures in
-    subst (λ (l : List Item). AllByRecursion (λ (i : Item). known_at c.self.inside.memo.places i.key ≡ None) l) (sym c.as_slice-3.ensures)
-    (seeds_none own c.self.inside.memo c.args.list.now c.in_ok-adds.adds c.self.invariant items)
-
-pub invariant_of-self-2 : goal.invariant_of-self-2
-invariant_of-self-2 c =
-    let own : Core = record { settings = c.self.inside.settings; scope = c.self.inside.scope; events = c.self.inside.events.items } in
-    let items : c.in_ok-adds.adds ≡ taken c.self.inside.memo.places c.self.inside.scope c.args.list.now = c.in_ok-adds.ensures ∙ ap (λ (l : List (List ℕ)). taken c.self.inside.memo.places c.self.inside.scope l) c.as_slice.ensures in
-    let timed : c.next_time-time.result ≡ next_time own c.args.now = c.next_time-time.ensures ∙ ap (λ (core : Core). next_time core c.args.now) (sym c.self.view_is) in
-    let pushed : c.push.new.events.items ≡ c.self.inside.events.items ++ Seeds c.next_time-time.result c.args.list.now c.in_ok-adds.adds ∷ [] =
-    c.in_ok-push.ensures.ok
-    ∙ ap (λ (l : List (List ℕ)). c.self.inside.events.items ++ Seeds c.next_time-time.result l c.in_ok-copy-2.field-0 ∷ []) c.in_ok-copy.ensures
-    ∙ ap (λ (l : List Item). c.self.inside.events.items ++ Seeds c.next_time-time.result c.args.list.now l ∷ []) c.in_ok-copy-2.ensures in
-    seeds_remembered own c.self.inside.memo c.args.list.now c.in_ok-adds.adds c.self.invariant items _ c.next_time-time.result c.args.now c.push.new.events.items timed pushed
-    (λ key. c.in_ok-push.ensures.added key ∙ ap (λ (l : List Item). after_adds l key (known_at c.self.inside.memo.places key)) c.as_slice-3.ensures) refl refl refl
+    let made : Event = Seeds c.next_time-time.result c.args.list.now c.in_ok-adds.adds in
+    let event : c.in_ok-copy-2.field-0 ≡ made = c.in_ok-copy-2.ensures ∙ ap (λ (l : List (List ℕ)). Seeds c.next_time-time.result l c.in_ok-adds.adds) c.in_ok-copy.ensures in
+    subst (λ (core : Core). Fits (history core) c.in_ok-copy-2.field-0) c.self.view_is
+    (subst (Fits (history own)) (sym event) (seeds_fit own c.self.inside.memo c.args.list.now c.in_ok-adds.adds c.self.invariant items c.next_time-time.result))
 
 pub returns-clause-ok : goal.returns-clause-ok
 returns-clause-ok c =
-    let own : Core = record { settings = c.self.inside.settings; scope = c.self.inside.scope; events = c.self.inside.events.items } in
+    let own : Core = record { settings = c.self.inside.settings; scope = c.self.inside.scope; events = c.self.inside.events.items; robots = c.self.inside.robots.entries } in
     let items : c.in_ok-adds.adds ≡ taken c.self.inside.memo.places c.self.inside.scope c.args.list.now = c.in_ok-adds.ensures ∙ ap (λ (l : List (List ℕ)). taken c.self.inside.memo.places c.self.inside.scope l) c.as_slice.ensures in
+    let made : Event = Seeds c.next_time-time.result c.args.list.now c.in_ok-adds.adds in
+    let event : c.in_ok-copy-2.field-0 ≡ made = c.in_ok-copy-2.ensures ∙ ap (λ (l : List (List ℕ)). Seeds c.next_time-time.result l c.in_ok-adds.adds) c.in_ok-copy.ensures in
     let timed : c.next_time-time.result ≡ next_time own c.args.now = c.next_time-time.ensures ∙ ap (λ (core : Core). next_time core c.args.now) (sym c.self.view_is) in
-    let pushed : c.push.new.events.items ≡ c.self.inside.events.items ++ Seeds c.next_time-time.result c.args.list.now c.in_ok-adds.adds ∷ [] =
-    c.in_ok-push.ensures.ok
-    ∙ ap (λ (l : List (List ℕ)). c.self.inside.events.items ++ Seeds c.next_time-time.result l c.in_ok-copy-2.field-0 ∷ []) c.in_ok-copy.ensures
-    ∙ ap (λ (l : List Item). c.self.inside.events.items ++ Seeds c.next_time-time.result c.args.list.now l ∷ []) c.in_ok-copy-2.ensures in
-    let new : Core = record { settings = c.self.inside.settings; scope = c.self.inside.scope; events = c.push.new.events.items } in
-    subst (λ (core : Core). IsSeeded core new c.args.list.now c.args.now (Seeds c.next_time-time.result c.in_ok-list.list c.in_ok-adds.adds)) c.self.view_is
-    (subst (λ (l : List (List ℕ)). IsSeeded own new c.args.list.now c.args.now (Seeds c.next_time-time.result l c.in_ok-adds.adds)) (sym c.in_ok-list.ensures)
-    (seeds_said own c.self.inside.memo c.args.list.now c.in_ok-adds.adds c.self.invariant items c.self.inside.memo c.next_time-time.result c.args.now c.push.new.events.items timed pushed))
+    let result : Event = Seeds c.next_time-time.result c.in_ok-copy.field-0 c.in_ok-adds.adds in
+    let is : result ≡ made = ap (λ (l : List (List ℕ)). Seeds c.next_time-time.result l c.in_ok-adds.adds) c.in_ok-copy.ensures in
+    let kept : c.record.new.self ≡ with_event own result =
+    c.in_ok-record.ensures.ok ∙ ap (λ (core : Core). with_event core c.in_ok-copy-2.field-0) (sym c.self.view_is) ∙ ap (λ (e : Event). with_event own e) c.in_ok-copy-2.ensures in
+    subst (λ (core : Core). IsSeeded core c.record.new.self c.args.list.now c.args.now result) c.self.view_is
+    (seeds_said own c.self.inside.memo c.args.list.now c.in_ok-adds.adds c.self.invariant items c.record.new.self c.next_time-time.result c.args.now result timed is kept)
 
 pub returns-clause-room : goal.returns-clause-room
 returns-clause-room c =
-    let own : Core = record { settings = c.self.inside.settings; scope = c.self.inside.scope; events = c.self.inside.events.items } in
+    let own : Core = record { settings = c.self.inside.settings; scope = c.self.inside.scope; events = c.self.inside.events.items; robots = c.self.inside.robots.entries } in
     let items : c.in_ok-adds.adds ≡ taken c.self.inside.memo.places c.self.inside.scope c.args.list.now = c.in_ok-adds.ensures ∙ ap (λ (l : List (List ℕ)). taken c.self.inside.memo.places c.self.inside.scope l) c.as_slice.ensures in
-    let timed : c.next_time-time.result ≡ next_time own c.args.now = c.next_time-time.ensures ∙ ap (λ (core : Core). next_time core c.args.now) (sym c.self.view_is) in
-    let pushed : c.push.new.events.items ≡ c.self.inside.events.items ++ Seeds c.next_time-time.result c.args.list.now c.in_ok-adds.adds ∷ [] =
-    c.in_ok-push.ensures.ok
-    ∙ ap (λ (l : List (List ℕ)). c.self.inside.events.items ++ Seeds c.next_time-time.result l c.in_ok-copy-2.field-0 ∷ []) c.in_ok-copy.ensures
-    ∙ ap (λ (l : List Item). c.self.inside.events.items ++ Seeds c.next_time-time.result c.args.list.now l ∷ []) c.in_ok-copy-2.ensures in
-    let grows = seeds_counted own c.self.inside.memo c.args.list.now c.in_ok-adds.adds c.self.invariant items c.self.inside.memo c.next_time-time.result c.args.now c.push.new.events.items timed pushed in
+    let made : Event = Seeds c.next_time-time.result c.args.list.now c.in_ok-adds.adds in
+    let event : c.in_ok-copy-2.field-0 ≡ made = c.in_ok-copy-2.ensures ∙ ap (λ (l : List (List ℕ)). Seeds c.next_time-time.result l c.in_ok-adds.adds) c.in_ok-copy.ensures in
+    let kept : c.record.new.self ≡ with_event own made =
+    c.in_ok-record.ensures.ok ∙ ap (λ (core : Core). with_event core c.in_ok-copy-2.field-0) (sym c.self.view_is) ∙ ap (λ (e : Event). with_event own e) event in
+    let grows : known_count c.record.new.self ≡ known_count own + length c.in_ok-adds.adds =
+    ap (λ (core : Core). known_count core) kept ∙ seeds_counted own c.self.inside.memo c.args.list.now c.in_ok-adds.adds c.self.invariant items c.next_time-time.result in
     let count : c.known-known.result ≡ known_count own = c.known-known.ensures ∙ ap (λ (core : Core). known_count core) (sym c.self.view_is) in
     let len : length c.as_slice-2.result.now ≡ length c.in_ok-adds.adds = ap (λ (l : List Item). length l) c.as_slice-2.ensures in
     let most : c.self.inside.settings.max_keys ≡ c.args.self.now.settings.max_keys = ap (λ (core : Core). core.settings.max_keys) c.self.view_is in

@@ -1,0 +1,9 @@
+pub mod CountSteps
+pub mod Counting
+pub mod Folding
+pub mod Keeping
+pub mod Lists
+pub mod Maps
+pub mod SessionSteps
+pub mod Taking
+pub mod Telling

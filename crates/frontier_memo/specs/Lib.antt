@@ -1,0 +1,7 @@
+pub mod Fits
+pub mod Keeping
+pub mod Laws
+pub mod Memory
+pub mod Sums
+pub mod Taking
+pub mod Undoing
