@@ -1,5 +1,5 @@
 -- A digest's text is visible.
-use Rattle.std.proofs.Common.{◌≡◌, ℕ, zero, suc, ◌+◌, ◌*◌, ◌/◌, ◌%◌, ◌^◌, ◌<◌, ◌≤◌, Bool, true, false, not, ◌&&◌, cond, Some, None, List, [], ◌∷◌, ◌++◌, length, map, get_or, refl, ◌∙◌, ap, arith, nat_lt}
+use Rattle.std.proofs.Common.{◌≡◌, ℕ, zero, suc, ◌+◌, ◌-◌, ◌*◌, ◌/◌, ◌%◌, ◌^◌, ◌<◌, ◌≤◌, Bool, true, false, not, ◌&&◌, cond, Some, None, List, [], ◌∷◌, ◌++◌, length, length-append, map, get_or, refl, ◌∙◌, ap, arith, nat_lt}
 use Rattle.std.specs.Prelude.{codes, position, if◌then◌else◌, option_map}
 use Rattle.std.specs.List.{list_all, prefix_len}
 use Rattle.std.specs.Str.{IsUtf8}
@@ -53,6 +53,19 @@ length-base32 (a ∷ []) = omega arith
 length-base32 (a ∷ b ∷ []) = omega arith
 length-base32 (a ∷ b ∷ c ∷ []) = omega arith
 length-base32 (a ∷ b ∷ c ∷ d ∷ []) = omega arith
+
+-- exactly eight, where nothing is left over
+length-base32-groups : (bytes : List ℕ) (groups : ℕ) → length bytes ≡ 5 * groups → length (base32 bytes) ≡ 8 * groups
+length-base32-groups (a ∷ b ∷ c ∷ d ∷ e ∷ others) groups h = omega (arith, length-base32-groups others (groups - 1) (omega arith))
+length-base32-groups [] groups h = omega arith
+length-base32-groups (a ∷ []) groups h = absurd (omega arith)
+length-base32-groups (a ∷ b ∷ []) groups h = absurd (omega arith)
+length-base32-groups (a ∷ b ∷ c ∷ []) groups h = absurd (omega arith)
+length-base32-groups (a ∷ b ∷ c ∷ d ∷ []) groups h = absurd (omega arith)
+
+-- twenty bytes make a digest of 37
+pub length-marked : (bytes : List ℕ) → length bytes ≡ 20 → length (codes "sha1:" ++ base32 bytes) ≡ 37
+length-marked bytes h = omega (arith, length-base32-groups bytes 4 (omega arith), length-append (codes "sha1:") (base32 bytes))
 
 prefix_all : (xs : List ℕ) → list_all is_visible xs ≡ true → prefix_len (λ b. not (not (is_visible b))) xs ≡ length xs
 prefix_all [] h = refl

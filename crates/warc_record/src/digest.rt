@@ -1,5 +1,5 @@
 // Digests as texts.
-ghost use Rattle.std.specs.Prelude.{◌≡◌, IfOk, None};
+ghost use Rattle.std.specs.Prelude.{◌≡◌, IfOk, None, length};
 ghost use Rattle.std.specs.Str.{IsUtf8};
 ghost use Rattle.crawl_kinds.specs.Text.{text_fault, is_visible};
 ghost use Rattle.record_spec.specs.Base32.{digest_text};
@@ -28,7 +28,8 @@ fn text_of(alloc: Global, bytes: &[u8]) -> Result<Digest, NoMemory>
 
 /// The digest of bytes: `sha1:` and the base32 (RFC 4648 §6) of their SHA-1, 37 bytes.
 pub fn digest_of(alloc: Global, bytes: &[u8]) -> Result<Digest, NoMemory>
-    ensures { IfOk result (λ digest. digest ≡ digest_text bytes.now) }
+    ensures text { IfOk result (λ digest. digest ≡ digest_text bytes.now) }
+    ensures len { IfOk result (λ digest. length digest ≡ 37) }
 {
     let mut text = Vec::from_slice(alloc, b"sha1:")?;
     push_base32(&Sha1::digest(bytes), &mut text)?;
