@@ -4,6 +4,7 @@ pub mod Folding
 pub mod Keeping
 pub mod Lists
 pub mod Maps
+pub mod Outs
 pub mod SessionSteps
 pub mod Taking
 pub mod Telling

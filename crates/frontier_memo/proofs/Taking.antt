@@ -21,13 +21,14 @@ use Rattle.frontier_memo.specs.declared.known.Known.{Known}
 use Rattle.frontier_memo.specs.declared.known.Known.TheVariants as known
 use Rattle.frontier_memo.specs.declared.memo.Memo.{Memo}
 use Rattle.frontier_memo.specs.declared.session.Out.{Out}
-use Rattle.frontier_memo.specs.Fits.{item_at, last_added, AddsFit, EmitFits, FinishFits}
+use Rattle.frontier_memo.specs.Fits.{item_at, last_added, AddsFit, EmitFits, FinishFits, Fits}
 use Rattle.frontier_memo.specs.Keeping.{known_at, place_by, waiting_by, waits_by, add_at, after_adds, after_finish, are_free}
 use Rattle.frontier_memo.specs.Memory.{last_add, Tells, emission, RemembersSession, RemembersCounts, Remembers}
 use Rattle.frontier_memo.specs.Sums.{first_session}
 use Rattle.frontier_memo.specs.Taking.{MayEmit, MayFinish, Takes, item_under}
 use Rattle.frontier_memo.proofs.CountSteps.{uncounted}
 use Rattle.frontier_memo.proofs.Lists.{find-map, any-map, found}
+use Rattle.frontier_memo.proofs.Outs.{outs_after}
 use Rattle.frontier_memo.proofs.SessionSteps.{seeded}
 use Rattle.frontier_memo.proofs.Telling.{IsSettled, told, unfinished, finished, adds_fit, adds_unfit, waits_by-place}
 
@@ -85,6 +86,7 @@ kept_still h old new is same ordinals tickets time first session counts =
       first = first ∙ is.first;
       session = session;
       counts = counts;
+      outs = is.outs;
     }
 
 -- also after an error
@@ -106,8 +108,9 @@ pub session_taken :
     → RemembersSession (with_event h (Session time job format)) new.session → new.counts ≡ old.counts
     → Takes h (Session time job format) new true
 session_taken h old new time job format is places ordinals tickets later first session counts =
-    let e : Event = Session time job format in (
-      record { kind = tt; adds = no_adds h e refl },
+    let e : Event = Session time job format in
+    let stands : Fits h e = record { kind = tt; adds = no_adds h e refl } in (
+      stands,
       record {
         places = λ key. subst (λ m. Tells (with_event h e) key (known_at m key)) (sym places) (told h e key _ (unfinished h e key _ refl (is.places key)));
         ordinals = ordinals ∙ is.ordinals ∙ sym (ordinal_count-with_event h e ∙ add-zero (ordinal_count h));
@@ -116,6 +119,7 @@ session_taken h old new time job format is places ordinals tickets later first s
         first = first ∙ ap (λ o. option_or o (Some time)) is.first ∙ sym (first_session-with_event h e);
         session = session;
         counts = subst (RemembersCounts (with_event h e)) (sym counts) (uncounted h e old.counts refl is.counts);
+        outs = outs_after h e stands is.outs;
       },
     )
 
@@ -135,20 +139,22 @@ module _ (h : History) (old : Memo) (time : ℕ) (list : List (List ℕ)) (adds 
       → new.ordinals ≡ old.ordinals + length adds → new.tickets ≡ old.tickets → new.time ≡ max old.time time
       → new.first ≡ old.first → new.session ≡ old.session → new.counts ≡ old.counts
       → Takes h (Seeds time list adds) new true
-  seeds_taken new free added ordinals tickets later first session counts = (
-    record { kind = tt; adds = adds_fit h seeds (known_at old.places) seeds_settled free },
-    record {
-      places = λ key. subst (Tells (with_event h seeds) key)
-          (sym (added key ∙ ap (λ n. after_adds n adds key (known_at old.places key)) is.ordinals))
-          (told h seeds key (known_at old.places key) (seeds_settled key));
-      ordinals = ordinals ∙ ap (λ n. n + length adds) is.ordinals ∙ sym (ordinal_count-with_event h seeds);
-      tickets = tickets ∙ is.tickets ∙ sym (ticket_count-with_event h seeds ∙ add-zero (ticket_count h));
-      time = timed h seeds old.time new.time time is.time later refl;
-      first = first_still h seeds new.first refl (first ∙ is.first);
-      session = subst (RemembersSession (with_event h seeds)) (sym session) (seeded h old.session time list adds is.session);
-      counts = subst (RemembersCounts (with_event h seeds)) (sym counts) (uncounted h seeds old.counts refl is.counts);
-    },
-  )
+  seeds_taken new free added ordinals tickets later first session counts =
+      let stands : Fits h seeds = record { kind = tt; adds = adds_fit h seeds (known_at old.places) seeds_settled free } in (
+        stands,
+        record {
+          places = λ key. subst (Tells (with_event h seeds) key)
+              (sym (added key ∙ ap (λ n. after_adds n adds key (known_at old.places key)) is.ordinals))
+              (told h seeds key (known_at old.places key) (seeds_settled key));
+          ordinals = ordinals ∙ ap (λ n. n + length adds) is.ordinals ∙ sym (ordinal_count-with_event h seeds);
+          tickets = tickets ∙ is.tickets ∙ sym (ticket_count-with_event h seeds ∙ add-zero (ticket_count h));
+          time = timed h seeds old.time new.time time is.time later refl;
+          first = first_still h seeds new.first refl (first ∙ is.first);
+          session = subst (RemembersSession (with_event h seeds)) (sym session) (seeded h old.session time list adds is.session);
+          counts = subst (RemembersCounts (with_event h seeds)) (sym counts) (uncounted h seeds old.counts refl is.counts);
+          outs = outs_after h seeds stands is.outs;
+        },
+      )
 
   -- one was not
   pub seeds_refused : (new : Memo) → are_free (λ key. waits_by (known_at old.places key)) [] adds ≡ false → Takes h (Seeds time list adds) new false
@@ -176,7 +182,7 @@ last_added-last_add h key = by_adds (all_adds h)
         ∙ mapped (last_of (add_at key) adds) (add_at key a)
 
 -- the item of what waits is the one with which the key was last added
-item_kept : (h : History) (key : List ℕ) (kept : Option Known) → Tells h key kept → IfSome (waiting_by kept) (λ w. last_added h key ≡ Some w.item)
+pub item_kept : (h : History) (key : List ℕ) (kept : Option Known) → Tells h key kept → IfSome (waiting_by kept) (λ w. last_added h key ≡ Some w.item)
 item_kept h key None tells = tt
 item_kept h key (Some (known.Done code)) tells = tt
 item_kept h key (Some (known.Waits w)) tells = last_added-last_add h key ∙ ap (option_map (λ a. a.item)) tells.waiting.add
@@ -225,16 +231,18 @@ pub emit_taken :
     → Takes h (Emit one.time one.caller one.ticket one.verdict one.item) new true
 emit_taken h old new one is may places ordinals tickets later first session counts =
     let e : Event = Emit one.time one.caller one.ticket one.verdict one.item in
-    let stands = emit_may h old one.ticket one.item is may in (
-      record { kind = stands; adds = no_adds h e refl },
+    let may = emit_may h old one.ticket one.item is may in
+    let stands : Fits h e = record { kind = may; adds = no_adds h e refl } in (
+      stands,
       record {
         places = λ key. subst (λ m. Tells (with_event h e) key (known_at m key)) (sym places) (told h e key _ (unfinished h e key _ refl (is.places key)));
         ordinals = ordinals ∙ is.ordinals ∙ sym (ordinal_count-with_event h e ∙ add-zero (ordinal_count h));
-        tickets = tickets ∙ stands.next ∙ sym (ticket_count-with_event h e);
+        tickets = tickets ∙ may.next ∙ sym (ticket_count-with_event h e);
         time = timed h e old.time new.time one.time is.time later refl;
         first = first_still h e new.first refl (first ∙ is.first);
-        session = session is.session stands.next;
+        session = session is.session may.next;
         counts = subst (RemembersCounts (with_event h e)) (sym counts) (uncounted h e old.counts refl is.counts);
+        outs = outs_after h e stands is.outs;
       },
     )
 
@@ -282,12 +290,12 @@ module _ (h : History) (old : Memo) (time caller ticket : ℕ) (item : Item) (en
   abbrev finish : Event
   finish = Finish time caller ticket item end adds
 
-  stands : FinishFits h ticket item
-  stands = finish_may h old ticket item is may
+  may_end : FinishFits h ticket item
+  may_end = finish_may h old ticket item is may
 
   finish_settled : (key : List ℕ) → IsSettled h finish key (after_finish item end key (known_at old.places key))
   finish_settled key =
-      let both = finished h item end key (known_at old.places key) stands.waits (is.places key) in
+      let both = finished h item end key (known_at old.places key) may_end.waits (is.places key) in
       record { place = both.0; waiting = both.1 }
 
   -- all adds were free
@@ -298,20 +306,22 @@ module _ (h : History) (old : Memo) (time caller ticket : ℕ) (item : Item) (en
       → (ticket ≤ ticket_count h → RemembersSession (with_event h (Finish time caller ticket item end adds)) new.session)
       → RemembersCounts (with_event h (Finish time caller ticket item end adds)) new.counts
       → Takes h (Finish time caller ticket item end adds) new true
-  finish_taken new free added ordinals tickets later first session counts = (
-    record { kind = stands; adds = adds_fit h finish (λ key. after_finish item end key (known_at old.places key)) finish_settled free },
-    record {
-      places = λ key. subst (Tells (with_event h finish) key)
-          (sym (added key ∙ ap (λ n. after_adds n adds key (after_finish item end key (known_at old.places key))) is.ordinals))
-          (told h finish key (after_finish item end key (known_at old.places key)) (finish_settled key));
-      ordinals = ordinals ∙ ap (λ n. n + length adds) is.ordinals ∙ sym (ordinal_count-with_event h finish);
-      tickets = tickets ∙ is.tickets ∙ sym (ticket_count-with_event h finish ∙ add-zero (ticket_count h));
-      time = timed h finish old.time new.time time is.time later refl;
-      first = first_still h finish new.first refl (first ∙ is.first);
-      session = session (out_given h ticket item is.session.given stands.out);
-      counts = counts;
-    },
-  )
+  finish_taken new free added ordinals tickets later first session counts =
+      let stands : Fits h finish = record { kind = may_end; adds = adds_fit h finish (λ key. after_finish item end key (known_at old.places key)) finish_settled free } in (
+        stands,
+        record {
+          places = λ key. subst (Tells (with_event h finish) key)
+              (sym (added key ∙ ap (λ n. after_adds n adds key (after_finish item end key (known_at old.places key))) is.ordinals))
+              (told h finish key (after_finish item end key (known_at old.places key)) (finish_settled key));
+          ordinals = ordinals ∙ ap (λ n. n + length adds) is.ordinals ∙ sym (ordinal_count-with_event h finish);
+          tickets = tickets ∙ is.tickets ∙ sym (ticket_count-with_event h finish ∙ add-zero (ticket_count h));
+          time = timed h finish old.time new.time time is.time later refl;
+          first = first_still h finish new.first refl (first ∙ is.first);
+          session = session (out_given h ticket item is.session.given may_end.out);
+          counts = counts;
+          outs = outs_after h finish stands is.outs;
+        },
+      )
 
   -- one was not
   pub finish_refused : (new : Memo) → are_free (λ key. waits_by (after_finish item end key (known_at old.places key))) [] adds ≡ false → Takes h (Finish time caller ticket item end adds) new false

@@ -19,6 +19,7 @@ use Rattle.frontier_memo.specs.declared.counts.Counts.{Counts}
 use Rattle.frontier_memo.specs.declared.session.Out.{Out}
 use Rattle.frontier_memo.specs.declared.session.SessionMemo.{SessionMemo}
 use Rattle.frontier_memo.specs.declared.memo.Memo.{Memo}
+use Rattle.frontier_memo.specs.Outs.{OutsStand}
 use Rattle.frontier_memo.specs.Keeping.{known_at, place_by, waiting_by, add_at, add_of}
 use Rattle.frontier_memo.specs.Sums.{saturated, saturated_edge, spent_at, last_at, last_by, first_session}
 
@@ -67,3 +68,5 @@ pub record Remembers (h : History) (memo : Memo) : Type 0 where
   pub first : memo.first ≡ first_session h
   pub session : RemembersSession h memo.session
   pub counts : RemembersCounts h memo.counts
+  -- and what is out waits
+  pub outs : OutsStand h
