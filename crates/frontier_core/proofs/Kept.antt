@@ -113,6 +113,12 @@ apart-rising (x ∷ adds) rising = (
   apart-rising adds rising.1,
 )
 
+-- what is kept of a key is among the values
+pub value_here : (memo : Memo) (key : List ℕ) (k : Known) → known_at memo.places key ≡ Some k → Among (values memo.places) k
+value_here memo key k at =
+    among-map (λ (e : List ℕ × Known). e.1) memo.places.entries (key, k)
+    (from_contains memo.places.entries (key, k) (Contains-from_lookup {eq = eq_by_cmp (slice_cmp nat_cmp)} same_text key k memo.places.entries at))
+
 module _ (h : History) (memo : Memo) (is : Remembers h memo) (ordered : IsOrdered (slice_cmp nat_cmp) memo.places) where
   entry_known : (e : List ℕ × Known) → Among memo.places.entries e → known_at memo.places e.0 ≡ Some e.1
   entry_known e among = lookup-from_Contains by_order e.0 e.1 memo.places.entries (IsDistinct-from_sorted (slice_cmp nat_cmp) (keys_of memo.places.entries) ordered) (to_contains memo.places.entries e among)
@@ -122,11 +128,14 @@ module _ (h : History) (memo : Memo) (is : Remembers h memo) (ordered : IsOrdere
 
   -- what waits is among them
   pub kept_here : (key : List ℕ) (w : Waiting) → known_at memo.places key ≡ Some (known.Waits w) → Among (kept_adds memo.places) (add_of w)
-  kept_here key w at =
-      among-filter_map add_in (values memo.places) (known.Waits w) (add_of w)
-      (among-map (λ (e : List ℕ × Known). e.1) memo.places.entries (key, known.Waits w)
-      (from_contains memo.places.entries (key, known.Waits w) (Contains-from_lookup {eq = eq_by_cmp (slice_cmp nat_cmp)} same_text key (known.Waits w) memo.places.entries at)))
-      refl
+  kept_here key w at = among-filter_map add_in (values memo.places) (known.Waits w) (add_of w) (value_here memo key (known.Waits w) at) refl
+
+  -- what waits is kept of its own key
+  pub own_known : (w : Waiting) → Among (values memo.places) (known.Waits w) → known_at memo.places w.item.key ≡ Some (known.Waits w)
+  own_known w among =
+      let entry = from-map (λ (e : List ℕ × Known). e.1) memo.places.entries (known.Waits w) among in
+      let tells : Tells h entry.0.0 (Some (known.Waits w)) = subst (λ (k : Known). Tells h entry.0.0 (Some k)) entry.2 (entry_tells entry.0 entry.1) in
+      ap (known_at memo.places) (has_its_key h entry.0.0 w tells) ∙ entry_known entry.0 entry.1 ∙ ap Some entry.2
 
   -- what is among them waits, and was added last
   pub from_kept : (y : Add) → Among (kept_adds memo.places) y → (is_waiting (place_of h y.item.key) ≡ true) × (last_add h y.item.key ≡ Some y)

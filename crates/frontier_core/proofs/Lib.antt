@@ -1,6 +1,11 @@
+pub mod Deciding
+pub mod Emits
+pub mod Firsts
 pub mod Kept
+pub mod Limits
 pub mod Ordering
 pub mod Permuting
 pub mod Seeded
 pub mod Seeding
 pub mod Standing
+pub mod Waking

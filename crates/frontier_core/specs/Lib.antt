@@ -1,5 +1,7 @@
 pub mod Answers
+pub mod Choosing
 pub mod Core
+pub mod Emitting
 pub mod Kept
 pub mod Robots
 pub mod SeedItems

@@ -1,27 +1,35 @@
 // The core.
-ghost use Rattle.std.specs.Prelude.{◌≡◌, ◌≤◌, ℕ, true, [], All, IfOk, OnOk, OnErr, Err, option_map};
+ghost use Rattle.std.specs.Prelude.{◌≡◌, ◌≤◌, ◌+◌, ℕ, true, [], All, IfOk, OnOk, OnErr, Err, option_map};
 ghost use Rattle.std.specs.List.{list_any};
 ghost use Rattle.crawl_kinds.specs.Address.{IsUri};
 ghost use Rattle.crawl_history.specs.Facts.{Archive};
 ghost use Rattle.crawl_history.specs.Citations.{cited_end};
+ghost use Rattle.crawl_history.specs.Emission as emission;
 ghost use Rattle.crawl_history.specs.History.{is_session, last_time, ticket_count};
 ghost use Rattle.crawl_history.specs.Places as places;
+ghost use Rattle.crawl_history.specs.Steps.{last_caller};
+ghost use Rattle.crawl_history.specs.Verdicts as verdicts;
 ghost use Rattle.core_facts.specs.CoreFacts.{Pages};
 ghost use Rattle.frontier_core.specs.Core as core;
 ghost use Rattle.frontier_core.specs.Answers.{IsSeeded, IsFull};
+ghost use Rattle.frontier_core.specs.Choosing.{answer_by, IsReady};
+ghost use Rattle.frontier_core.specs.Emitting.{emit_event, Answers, Moves};
 ghost use Rattle.frontier_core.specs.Standing.{HasNoRobots, Stands};
 ghost use Rattle.frontier_core.specs.Waiting.{IsWaitingList};
-ghost use Rattle.frontier_memo.specs.Fits.{AllFit, Fits, IsFirstUnfit};
+ghost use Rattle.frontier_memo.specs.Fits.{AllFit, EmitFits, Fits, IsFirstUnfit};
 ghost use Rattle.frontier_memo.specs.Sums.{saturated_edge};
 
-use crate::robots::KeptRobots;
+use crate::choosing::{self, Next, next_try};
+use crate::emitted::{Answer, Emitted};
+use crate::robots::{KeptRobots, verdict};
 use crate::seeds::taken;
 use crate::stop::FrontierStop;
 use crate::waiting::queued;
 use crawl_kinds::{
-    ClassKey, Copied, Edge, Event, Items, Key, MAX_MS, Millis, NoMemory, Place, Settings, Uris,
+    ClassKey, Copied, Edge, Event, Item, Items, Key, MAX_MS, Millis, NoMemory, Place, Settings,
+    Uris, Work,
 };
-use frontier_memo::{FoldFault, Memo, remember};
+use frontier_memo::{FoldFault, Memo, Waiting, remember};
 use scope_rules::Scope;
 use std::alloc::Global;
 use std::collections::BTreeMap;
@@ -180,5 +188,87 @@ impl Frontier {
         };
         self.record(event.copy()?)?;
         Ok(event)
+    }
+
+    /// Whether it is over at a moment, in milliseconds: nothing is out, and a limit of the job is met or no class with an
+    /// item that waits has budget left. It takes no memory.
+    pub fn over(&self, now: Millis) -> bool
+        ensures { (pages : Pages) (a : Archive) → result ≡ emission.is_over (core.facts self.now pages) a (core.history self.now) (core.next_time self.now now) }
+    {
+        let at = self.next_time(now);
+        choosing::over(&self.settings, &self.memo, &self.robots, at)
+    }
+
+    /// What an emit at a time is to answer.
+    fn decide(&self, at: Millis) -> Next<'_>
+        ensures answered { (pages : Pages) (a : Archive) → Stands pages a self.now
+            → emission.answer (core.facts self.now pages) a (core.history self.now) at ≡ answer_by result }
+        ensures ready { IsReady (core.history self.now) result }
+    {
+        choosing::decide(&self.settings, &self.memo, &self.robots, at)
+    }
+
+    /// What may be done at a time with an item that waits.
+    fn work_of(&self, alloc: Global, item: Item, tries: u32, at: Millis) -> Result<Work, NoMemory>
+        ensures verdict { IfOk result (λ work. (pages : Pages) (a : Archive) → Stands pages a self.now
+            → work.verdict ≡ verdicts.verdict (core.facts self.now pages) a (core.history self.now) item at) }
+        ensures same { IfOk result (λ work. (work.item ≡ item) × (work.at ≡ at) × (work.tries ≡ tries)) }
+    {
+        let kept = self.robots.get(&item.class);
+        let verdict = verdict(alloc, &self.settings, kept, &item, at)?;
+        Ok(Work {
+            item,
+            verdict,
+            at,
+            tries,
+        })
+    }
+
+    /// Puts an item that waits out, under the next ticket. For want of memory all is as before.
+    fn put_out(&mut self, caller: u32, work: Work) -> Result<Emitted, NoMemory>
+        requires { EmitFits (core.history self.old) (ticket_count (core.history self.old) + 1) work.item }
+        ensures ok { IfOk result (λ one. (self.new ≡ core.with_event self.old (emit_event one)) × Fits (core.history self.old) (emit_event one)) }
+        ensures same { IfOk result (λ one. (one.work ≡ work) × (one.caller ≡ caller) × (one.ticket ≡ ticket_count (core.history self.old) + 1)) }
+        ensures err { OnErr result (self.new ≡ self.old) }
+    {
+        let ticket = self.memo.tickets + 1;
+        let event = Event::Emit {
+            time: work.at,
+            caller,
+            ticket,
+            verdict: work.verdict,
+            item: work.item.copy()?,
+        };
+        self.record(event)?;
+        Ok(Emitted {
+            work,
+            ticket,
+            caller,
+        })
+    }
+
+    /// Hands out the item that goes first at a moment, in milliseconds, to one of at most 32 callers, counted from 0, and
+    /// puts its event behind the others. Where nothing goes nothing changes: `Empty` tells that nothing may go yet, `Over`
+    /// that nothing will go any more. For want of memory all is as before.
+    pub fn emit(&mut self, alloc: Global, caller: u32, now: Millis) -> Result<Answer, NoMemory>
+        requires { caller ≤ last_caller }
+        ensures moves { IfOk result (Moves self.old self.new caller now) }
+        ensures answers { IfOk result (λ answer. (pages : Pages) (a : Archive) → Stands pages a self.old → Answers pages a self.old now answer) }
+        ensures stands { (pages : Pages) (a : Archive) → Stands pages a self.old → Stands pages a self.new }
+        ensures err { OnErr result (self.new ≡ self.old) }
+    {
+        let at = self.next_time(now);
+        let work = match self.decide(at) {
+            Next::Go(own) => self.work_of(
+                alloc,
+                own.item.copy()?,
+                next_try(&self.settings, own),
+                at,
+            )?,
+            Next::Wait(next) => return Ok(Answer::Empty { next }),
+            Next::Over => return Ok(Answer::Over),
+        };
+        let emitted = self.put_out(caller, work)?;
+        Ok(Answer::Work(emitted))
     }
 }

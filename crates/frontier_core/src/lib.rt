@@ -1,6 +1,8 @@
 //! The core of a crawl as a state machine over its history: the list of its events, beside what is asked of them most.
 #![tactic(auto)]
 
+mod choosing;
+mod emitted;
 mod frontier;
 mod item;
 mod robots;
@@ -8,6 +10,7 @@ mod seeds;
 mod stop;
 mod waiting;
 
+pub use emitted::{Answer, Emitted};
 pub use frontier::Frontier;
 pub use frontier_memo::FoldFault;
 pub use robots::standing_laws;
