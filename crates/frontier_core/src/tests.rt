@@ -95,14 +95,14 @@ fn emitted(alloc: Global, ticket: u64, text: &str) -> Result<Event, Fail> {
     })
 }
 
-fn failed(alloc: Global, ticket: u64, text: &str) -> Result<Event, Fail> {
+fn finished(alloc: Global, ticket: u64, text: &str, outcome: Outcome) -> Result<Event, Fail> {
     Ok(Event::Finish {
         time: START + 5,
         caller: 0,
         ticket,
         item: item(alloc, text)?,
         end: End {
-            outcome: Outcome::Failure,
+            outcome,
             code: -404,
             fetch: Some(Fetch {
                 start: START,
@@ -117,6 +117,10 @@ fn failed(alloc: Global, ticket: u64, text: &str) -> Result<Event, Fail> {
         },
         adds: Items::new(alloc),
     })
+}
+
+fn failed(alloc: Global, ticket: u64, text: &str) -> Result<Event, Fail> {
+    finished(alloc, ticket, text, Outcome::Failure)
 }
 
 // A session, and two seeds.
@@ -260,5 +264,159 @@ fn seeds_in_scope_are_added_once(rt: HostRuntime) -> Result<(), Fail> {
     let full = Err(FrontierStop::Full { known: 2, adds: 1 });
     assert_eq!(rt; seeded(alloc, 3)?, (Ok(1), 3, 3));
     assert_eq!(rt; seeded(alloc, 2)?, (full, 2, 2));
+    Ok(())
+}
+
+// What happened to an item: added with a rank, out, failed or fetched under the last ticket.
+#[derive(Clone, Copy)]
+enum Deed {
+    Added(u8),
+    Out,
+    Failed,
+    Fetched,
+}
+
+fn ranked(alloc: Global, text: &str, rank: u8) -> Result<Event, Fail> {
+    let mut adds = Items::new(alloc);
+    let mut item = item(alloc, text)?;
+    item.rank = rank;
+    adds.push(item)?;
+    Ok(Event::Seeds {
+        time: START,
+        list: Uris::new(alloc),
+        adds,
+    })
+}
+
+// The event of a deed.
+fn done(alloc: Global, deed: &Deed, text: &str, ticket: u64) -> Result<Event, Fail> {
+    match deed {
+        Deed::Added(rank) => ranked(alloc, text, *rank),
+        Deed::Out => emitted(alloc, ticket.saturating_add(1), text),
+        Deed::Failed => failed(alloc, ticket, text),
+        Deed::Fetched => finished(alloc, ticket, text, Outcome::Success),
+    }
+}
+
+// A core after a session and these deeds, whose hosts are left alone for 3 seconds.
+fn core_after(
+    alloc: Global,
+    deeds: &[(Deed, &str)],
+    host_budget: u64,
+    max_pages: u64,
+) -> Result<Frontier, Fail> {
+    let mut events = Vec::new(alloc);
+    events.push(Event::Session {
+        time: START,
+        job: Key::new(alloc, "sample")?,
+        format: 1,
+    })?;
+    let mut ticket = 0u64;
+    for (deed, text) in deeds {
+        events.push(done(alloc, deed, text, ticket)?)?;
+        if let Deed::Out = deed {
+            ticket = ticket.saturating_add(1);
+        }
+    }
+    let job = Settings {
+        host_budget,
+        max_pages,
+        min_delay_ms: 3_000,
+        max_delay_ms: 3_000,
+        ..settings(alloc, 9)?
+    };
+    Ok(Frontier::fold(alloc, job, scope(alloc)?, events)?)
+}
+
+// What an emit answers, with moments from the start on, and a mark where it is over.
+fn asked(alloc: Global, frontier: &mut Frontier, now: u64) -> Result<String, Fail> {
+    let mark = if frontier.over(now) { "!" } else { "" };
+    match frontier.emit(alloc, 7, now)? {
+        Answer::Work(one) => {
+            let ticket = one.ticket();
+            let tries = one.work().tries;
+            let at = one.work().at.saturating_sub(START);
+            let text = format!(in alloc;
+                "{ticket} {} {at} {tries}{mark}",
+                one.work().item.uri.as_str()
+            );
+            one.give_up();
+            Ok(text?)
+        }
+        Answer::Empty { next: Some(next) } => {
+            let next = next.saturating_sub(START);
+            Ok(format!(in alloc; "empty {next}{mark}")?)
+        }
+        Answer::Empty { next: None } => Ok(format!(in alloc; "empty{mark}")?),
+        Answer::Over => Ok(format!(in alloc; "over{mark}")?),
+    }
+}
+
+// What two emits answer at these moments, counted from the start.
+fn answers(
+    alloc: Global,
+    deeds: &[(Deed, &str)],
+    limits: (u64, u64),
+    moments: (u64, u64),
+) -> Result<String, Fail> {
+    let mut frontier = core_after(alloc, deeds, limits.0, limits.1)?;
+    let first = asked(alloc, &mut frontier, START.saturating_add(moments.0))?;
+    let second = asked(alloc, &mut frontier, START.saturating_add(moments.1))?;
+    Ok(format!(in alloc; "{first}, {second}")?)
+}
+
+#[test]
+fn an_emit_hands_out_the_least_or_tells_why_none_goes(rt: HostRuntime) -> Result<(), Fail> {
+    let alloc = rt.alloc();
+    let (a, a2, b) = ("http://a.test/", "http://a.test/2", "http://b.test/");
+    let seeds = [
+        (Deed::Added(3), b),
+        (Deed::Added(3), a),
+        (Deed::Added(3), a2),
+    ];
+    let ended = [
+        (Deed::Added(3), a),
+        (Deed::Added(3), a2),
+        (Deed::Added(3), b),
+        (Deed::Out, a),
+        (Deed::Failed, a),
+    ];
+    let ranks = [(Deed::Added(3), a), (Deed::Added(1), a2)];
+    let again = [
+        (Deed::Added(3), a),
+        (Deed::Added(3), a2),
+        (Deed::Out, a),
+        (Deed::Fetched, a),
+    ];
+    let out = [(Deed::Added(3), a), (Deed::Out, a)];
+    let rows = [
+        // by class, and of one class one at a time
+        (
+            &seeds[..],
+            (0, 0),
+            (0, 0),
+            "1 http://a.test/ 0 1, 2 http://b.test/ 0 1",
+        ),
+        (&seeds[1..], (0, 0), (0, 0), "1 http://a.test/ 0 1, empty"),
+        // by wake
+        (
+            &ended[..],
+            (0, 0),
+            (5, 3_005),
+            "2 http://b.test/ 5 1, 3 http://a.test/2 3005 1",
+        ),
+        // by rank
+        (&ranks[..], (0, 0), (0, 0), "1 http://a.test/2 0 1, empty"),
+        // a clock that goes backwards
+        (&again[..], (0, 0), (2, 3_004), "empty 3005, empty 3005"),
+        // a budget, and a limit
+        (&again[..], (1, 0), (9_000, 9_000), "over!, over!"),
+        (&again[..], (0, 1), (9_000, 9_000), "over!, over!"),
+        // what is out is not over
+        (&out[..], (0, 0), (0, 0), "empty, empty"),
+    ];
+    for (deeds, limits, moments, wanted) in &rows {
+        assert_eq!(rt; answers(alloc, deeds, *limits, *moments)?.as_str(), *wanted);
+    }
     Ok(())
 }
