@@ -1,1 +1,6 @@
+pub mod Begun
+pub mod Firsts
 pub mod JobFiles
+pub mod Lengths
+pub mod Runs
+pub mod Unfit

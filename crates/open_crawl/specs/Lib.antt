@@ -1,2 +1,5 @@
+pub mod Damage
 pub mod Faults
 pub mod JobFile
+pub mod Opening
+pub mod Standing
