@@ -1,7 +1,7 @@
 -- The events that opening adds, and those of seeds: valid, and short enough for one block.
-use Rattle.std.proofs.Common.{◌≡◌, ℕ, ◌+◌, ◌<◌, ◌≤◌, ◌^◌, min, max, Bool, true, false, List, [], ◌∷◌, ◌++◌, length, drop, All, refl, sym, ◌∙◌, ap, subst, arith, append_assoc, length-append}
+use Rattle.std.proofs.Common.{◌≡◌, ℕ, ◌≤◌, max, Bool, true, false, List, [], ◌∷◌, ◌++◌, length, drop, All, refl, sym, ◌∙◌, ap, subst, arith, append_assoc, length-append}
 use Rattle.std.specs.Prelude.{fold, ◌||◌, ◌==◌}
-use Rattle.std.specs.List.{AllByRecursion, flat_map, list_any}
+use Rattle.std.specs.List.{AllByRecursion, list_any}
 use Rattle.std.proofs.Math.Seq.{drop-append_seam}
 use Rattle.std.proofs.lemmas.Bool.{eqb-true, false≢true}
 use Rattle.std.proofs.lemmas.List.Elements.{All-weaker, recursion_from_All}
@@ -9,13 +9,12 @@ use Rattle.std.proofs.lemmas.List.Folds.{list_any-append}
 use Rattle.crawl_kinds.specs.Address.{IsUri}
 use Rattle.crawl_kinds.specs.Event.{time_of}
 use Rattle.crawl_kinds.specs.declared.settings.Settings.{Settings}
-use Rattle.crawl_kinds.specs.declared.item.Item.{Item}
 use Rattle.crawl_kinds.specs.declared.event.TheConstants.{MAX_MS}
 use Rattle.crawl_kinds.specs.declared.event.Event.{Event}
 use Rattle.crawl_kinds.specs.declared.event.Event.TheVariants.{Session, Seeds, Emit, Finish}
 use Rattle.scope_spec.specs.Decision.{ScopeRules}
 use Rattle.crawl_history.specs.History.{history_of, last_time, is_session}
-use Rattle.core_facts.specs.CoreFacts.{Pages, facts_with}
+use Rattle.core_facts.specs.CoreFacts.{facts_with}
 use Rattle.core_facts.specs.Validity.{ItemsAreValid}
 use Rattle.frontier_core.specs.Answers.{IsSeeded}
 use Rattle.frontier_core.specs.Core.{Core}

@@ -1,5 +1,5 @@
 -- A core that has a session alone: it has room for its job's seeds, and knows nothing of robots files.
-use Rattle.std.proofs.Common.{◌≡◌, ℕ, ◌+◌, ◌<◌, ◌≤◌, Bool, true, false, List, [], ◌∷◌, ◌++◌, length, cond, refl, sym, ◌∙◌, ap, subst, arith}
+use Rattle.std.proofs.Common.{◌≡◌, ℕ, ◌≤◌, Bool, true, false, List, [], ◌∷◌, length, cond, refl, sym, ◌∙◌, ap, subst, arith}
 use Rattle.std.specs.Prelude.{filter, if◌then◌else◌, ◌&&◌}
 use Rattle.std.specs.List.{list_any}
 use Rattle.std.proofs.lemmas.List.{length-map}
@@ -16,7 +16,7 @@ use Rattle.crawl_history.specs.Adds.{item_of, new_items, same_key, seed_candidat
 use Rattle.core_facts.specs.CoreFacts.{Pages}
 use Rattle.frontier_core.specs.Answers.{IsSeeded, IsFull}
 use Rattle.frontier_core.specs.Core.{Core, facts, history, with_event}
-use Rattle.frontier_core.specs.Standing.{HasNoRobots, Stands, StandingLaws}
+use Rattle.frontier_core.specs.Standing.{Stands, StandingLaws}
 use Rattle.std.proofs.Common.{None}
 
 -- some pages: seeds add the same whatever they are

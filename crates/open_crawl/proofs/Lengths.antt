@@ -1,8 +1,8 @@
 -- How long the lines of sessions and of seeds are at most.
-use Rattle.std.proofs.Common.{◌≡◌, ℕ, ◌+◌, ◌*◌, ◌<◌, ◌≤◌, ◌^◌, Bool, true, List, [], ◌∷◌, ◌++◌, length, Option, Some, None, cond, sym, ◌∙◌, ap, ⊎_elim, arith, length-append}
+use Rattle.std.proofs.Common.{◌≡◌, ℕ, ◌+◌, ◌*◌, ◌≤◌, Bool, true, List, [], ◌∷◌, ◌++◌, length, Option, Some, None, cond, sym, ◌∙◌, ap, ⊎_elim, arith, length-append}
 use Rattle.std.specs.Prelude.{codes, unwrap_or, IfSome, IsTrue, is_none, nat_lt, not, option_map, position}
 use Rattle.std.specs.Fmt.{decimal}
-use Rattle.std.specs.List.{AllByRecursion, flat_map, join_with_byte}
+use Rattle.std.specs.List.{AllByRecursion, flat_map}
 use Rattle.std.proofs.lemmas.Bool.{cases_Bool, ltb-false}
 use Rattle.std.proofs.lemmas.Fmt.{length-decimal-le}
 use Rattle.crawl_kinds.specs.declared.event.TheConstants.{MAX_MS}

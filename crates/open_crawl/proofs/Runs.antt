@@ -1,6 +1,5 @@
 -- What a crash leaves of the journal in the midst of an opening, or of an adding of seeds, over any volume.
-use Rattle.std.proofs.Common.{◌≡◌, inl, inr, ℕ, ◌≤◌, List, [], ◌∷◌, ◌++◌, refl, sym, ◌∙◌, subst}
-use Rattle.std.specs.Prelude.{IsTrue}
+use Rattle.std.proofs.Common.{◌≡◌, inl, inr, ℕ, ◌≤◌, List, [], ◌∷◌, refl, ◌∙◌, subst}
 use Rattle.crawl_kinds.specs.declared.settings.Settings.{Settings}
 use Rattle.crawl_kinds.specs.declared.event.Event.{Event}
 use Rattle.crawl_traits.specs.Images.{Image, After}

@@ -1,5 +1,5 @@
 -- Which of the events that an opening folds can't stand.
-use Rattle.std.proofs.Common.{◌≡◌, ℕ, suc, zero, ◌+◌, ◌<◌, ◌≤◌, true, List, [], ◌∷◌, ◌++◌, take, length, refl, sym, ◌∙◌, ap, subst, Some, arith, ⊎_elim, length-append}
+use Rattle.std.proofs.Common.{◌≡◌, ℕ, suc, zero, ◌<◌, true, List, [], ◌∷◌, ◌++◌, take, length, refl, sym, ◌∙◌, ap, subst, Some, arith, ⊎_elim, length-append}
 use Rattle.std.specs.Prelude.{slice_get}
 use Rattle.std.proofs.lemmas.Bool.{cases_lt}
 use Rattle.std.proofs.lemmas.List.{take-append-le}
@@ -9,13 +9,11 @@ use Rattle.crawl_kinds.specs.declared.event.Event.TheVariants.{Session, Seeds, E
 use Rattle.crawl_kinds.specs.declared.item.Item.{Item}
 use Rattle.crawl_history.specs.History.{History, history_of, is_session}
 use Rattle.frontier_memo.specs.Fits.{AllFit, Fits, IsFirstUnfit}
-use Rattle.recover_journal.specs.Holds.{Holds, journal_file}
-use Rattle.recover_journal.specs.Faults.{IsJournalFault}
+use Rattle.recover_journal.specs.Holds.{journal_file}
 use Rattle.crawl_traits.specs.declared.fault.StoreFault.{StoreFault}
 use Rattle.crawl_traits.specs.declared.fault.StoreFault.TheVariants.{Volume, Damaged, NoMemory}
-use Rattle.open_crawl.specs.Damage.{IsUnfitAt, IsCrawlDamage}
+use Rattle.open_crawl.specs.Damage.{IsUnfitAt}
 use Rattle.open_crawl.specs.Faults.{IsDamageOf}
-use Rattle.std.proofs.Common.{inl, inr}
 
 get_before : {X : Type 0} (xs ys : List X) (i : ℕ) → i < length xs → slice_get (xs ++ ys) i ≡ slice_get xs i
 get_before [] ys i lt = absurd (omega arith)

@@ -5,7 +5,7 @@
 --     Begins job moment events new      opening adds a session and, where there was nothing, the job's seeds
 --     IsTooMany ..      the seeds would add more keys than there is room for
 --     FitsBlock events      the events can stand in one block
-use Rattle.std.specs.Prelude.{◌≡◌, ℕ, ◌+◌, ◌<◌, ◌≤◌, min, max, List, [], ◌∷◌, ◌++◌, length}
+use Rattle.std.specs.Prelude.{◌≡◌, ℕ, ◌+◌, ◌<◌, ◌≤◌, min, max, List, [], ◌∷◌, length}
 use Rattle.std.specs.List.{AllByRecursion, flat_map}
 use Rattle.crawl_kinds.specs.declared.settings.Settings.{Settings}
 use Rattle.crawl_kinds.specs.declared.item.Item.{Item}
