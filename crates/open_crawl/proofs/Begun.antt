@@ -48,7 +48,7 @@ last_valid events all = latest_valid 0 events (omega arith) all
 time_after_valid : (events : List Event) (moment : ℕ) → last_time (history_of events) ≤ MAX_MS → time_after events moment ≤ MAX_MS
 time_after_valid events moment le = omega arith
 
-all-append : {X : Type 0} (P : X → Type 0) (xs ys : List X) → AllByRecursion P xs → AllByRecursion P ys → AllByRecursion P (xs ++ ys)
+pub all-append : {X : Type 0} (P : X → Type 0) (xs ys : List X) → AllByRecursion P xs → AllByRecursion P ys → AllByRecursion P (xs ++ ys)
 all-append P [] ys all more = more
 all-append P (x ∷ xs) ys all more = (all.0, all-append P xs ys all.1 more)
 

@@ -4,3 +4,4 @@ pub mod JobFiles
 pub mod Lengths
 pub mod Runs
 pub mod Unfit
+pub mod WaitingItems

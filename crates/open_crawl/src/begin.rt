@@ -169,6 +169,7 @@ pub fn begin(
     ensures stands { IfOk result (λ r. (pages : Pages) (a : Archive) → Stands pages a r.0) }
     ensures opened { IfOk result (λ r. list_any is_session r.0.events ≡ true) }
     ensures in_time { IfOk result (λ r. last_time (history_of r.0.events) ≤ latest) }
+    ensures valid { IfOk result (λ r. AllByRecursion IsEvent r.0.events) }
     ensures fit { OnOk result (AllFit opened.events) }
     ensures unfit { IfErr result (IsDamageOf journal_file (IsUnfitAt opened.events opened.gates)) }
     ensures no_fault { result ≢ Err StoreFault.Volume }

@@ -2,7 +2,7 @@
 ghost use Rattle.std.specs.Prelude.{◌≡◌, ◌≢◌, ◌≤◌, [], ◌∷◌, List, ℕ, All, length, IsTrue, OnOk, IfOk, IfErr, Some, None};
 ghost use Rattle.crawl_kinds.specs.Address.{IsUri};
 ghost use Rattle.crawl_traits.specs.Causes.{Rose, HasStoreCause};
-ghost use Rattle.crawl_traits.specs.Images.{After};
+ghost use Rattle.crawl_traits.specs.Images.{After, Image};
 ghost use Rattle.crawl_traits.specs.Runs.{LeavesOnly, IsSettled};
 ghost use Rattle.crawl_traits.specs.declared.file.FileId.{FileId as File};
 ghost use Rattle.gate_log.specs.Blocks.{Counts, IsBody};
@@ -82,6 +82,7 @@ pub fn read_job<V: Volume>(alloc: Global, volume: &mut V) -> Result<Job, LoadFau
 pub fn write_job<V: Volume>(alloc: Global, volume: &mut V, text: &[u8]) -> Result<(), StoreFault>
     requires { IsBody text.now }
     ensures ok { IsTrue (V.tells volume.old) → OnOk result (Counts (text.now ∷ []) (V.contents volume.new File.Job)) }
+    ensures durable { IsTrue (V.tells volume.old) → OnOk result ((i : Image) → V.may_leave volume.new i → Counts (text.now ∷ []) (i File.Job)) }
     ensures others { IsTrue (V.tells volume.old) → (f : File) → f ≢ File.Job → V.contents volume.new f ≡ V.contents volume.old f }
     ensures kept { result ≡ Err StoreFault.NoMemory → V.contents volume.new ≡ V.contents volume.old }
     ensures undamaged { IfErr result (λ fault. IsDamageOf File.Job (λ at. ⊥) fault) }

@@ -6,7 +6,7 @@ ghost use Rattle.crawl_history.specs.History.{history_of, is_session, last_time}
 
 use crate::begin::{add_seeds, begin};
 use crate::fault::SeedsStop;
-use crawl_kinds::{Millis, Uris};
+use crawl_kinds::{Items, Millis, NoMemory, Uris};
 use crawl_traits::{StoreFault, Volume};
 use frontier_core::Frontier;
 use job_order::Job;
@@ -24,6 +24,7 @@ pub struct OpenCrawl {
 
 impl OpenCrawl {
     ghost use Rattle.std.specs.Prelude.{◌≢◌, ◌∷◌, ◌++◌, [], ℕ, List, All, length, IsTrue, OnOk, IfOk, IfErr, Err};
+    ghost use Rattle.std.specs.List.{AllByRecursion};
     ghost use Rattle.crawl_kinds.specs.Address.{IsUri};
     ghost use Rattle.crawl_kinds.specs.declared.event.Event.{Event};
     ghost use Rattle.crawl_traits.specs.Causes.{Rose, HasStoreCause};
@@ -32,6 +33,9 @@ impl OpenCrawl {
     ghost use Rattle.crawl_history.specs.Facts.{Archive};
     ghost use Rattle.core_facts.specs.CoreFacts.{Pages};
     ghost use Rattle.frontier_core.specs.Standing.{Stands};
+    ghost use Rattle.frontier_core.specs.Waiting.{IsWaitingList};
+    ghost use Rattle.journal_valid.specs.Items.{IsItem};
+    ghost use Rattle.journal_valid.specs.Valid.{IsEvent};
     ghost use Rattle.frontier_memo.specs.Fits.{AllFit};
     ghost use Rattle.recover_journal.specs.Holds.{journal_file, HoldsEvents};
     ghost use Rattle.recover_journal.specs.Rest.{OthersStay};
@@ -59,6 +63,7 @@ impl OpenCrawl {
         ensures same { IfOk result (λ own. (own.frontier.settings ≡ job.settings) × (own.frontier.scope ≡ job.scope)) }
         ensures stands { IfOk result (λ own. (pages : Pages) (a : Archive) → Stands pages a own.frontier) }
         ensures opened { IfOk result (λ own. list_any is_session own.frontier.events ≡ true) }
+        ensures valid { IfOk result (λ own. AllByRecursion IsEvent own.frontier.events) }
         ensures damaged { IsTrue (V.tells volume.old) → IfErr result (IsDamageOf journal_file (λ at. IsCrawlDamage at (V.contents volume.old journal_file))) }
 
         // A crash at any moment of the call leaves the events of the journal, or these and what opening adds.
@@ -124,5 +129,15 @@ impl OpenCrawl {
             Ok(()) => Ok(()),
             Err(_) => Err(SeedsStop::Volume),
         }
+    }
+
+    /// The items that wait: classes in byte order, those of a class as they stand in its queue. It fails for want of memory
+    /// alone.
+    pub fn waiting(&self, alloc: Global) -> Result<Items, NoMemory>
+        ensures list { IfOk result (IsWaitingList (history_of self.now.frontier.events)) }
+        ensures items { AllByRecursion IsEvent self.now.frontier.events → IfOk result (All IsItem) }
+    {
+        let items = self.frontier.waiting(alloc)?;
+        Ok(items)
     }
 }
