@@ -1,0 +1,4 @@
+pub mod Caused
+pub mod Openings
+pub mod Runs
+pub mod Said

@@ -1,0 +1,8 @@
+pub mod Causes
+pub mod Enqueue
+pub mod Init
+pub mod Opened
+pub mod Queue
+pub mod Statuses
+pub mod Tends
+pub mod Words
