@@ -1,5 +1,5 @@
 // Hosts whose addresses were read before: the next ones need no parse.
-ghost use Rattle.std.specs.Prelude.{◌≡◌, nat_eq, IfOk, MatchOption};
+ghost use Rattle.std.specs.Prelude.{◌≡◌, nat_eq, [], IfOk, MatchOption};
 ghost use Rattle.std.specs.List.{starts_with};
 ghost use Rattle.crawl_kinds.specs.Address.{IsUri};
 ghost use Rattle.uri_form.specs.Named.{IsNamed};
@@ -104,7 +104,10 @@ pub struct Hosts {
 
 impl Hosts {
     /// No host. It takes no memory.
-    pub fn new(alloc: Global) -> Self {
+    pub fn new(alloc: Global) -> Self
+        ensures list { result.list.items ≡ [] }
+        ensures last { result.last ≡ 0 }
+    {
         Hosts {
             list: Vec::new(alloc),
             last: 0,

@@ -1,5 +1,5 @@
 // What was read before and is often met again.
-ghost use Rattle.std.specs.Prelude.{◌≡◌, IfOk};
+ghost use Rattle.std.specs.Prelude.{◌≡◌, [], IfOk};
 ghost use Rattle.journal_valid.specs.Items.{IsAddress};
 
 use crate::hosts::Hosts;
@@ -51,7 +51,11 @@ pub struct Recent {
 
 impl Recent {
     /// Nothing was read. It takes no memory.
-    pub fn new(alloc: Global) -> Self {
+    pub fn new(alloc: Global) -> Self
+        ensures page { result.page ≡ None }
+        ensures hosts { result.hosts.list.items ≡ [] }
+        ensures last { result.hosts.last ≡ 0 }
+    {
         Recent {
             page: None,
             hosts: Hosts::new(alloc),
