@@ -1,6 +1,3 @@
-pub mod Committing
-pub mod Opened
-pub mod Plain
-pub mod Says
-pub mod Size
+pub mod Ends
+pub mod Visited
 pub mod Words

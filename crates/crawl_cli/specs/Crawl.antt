@@ -1,58 +1,69 @@
 -- What `crawl` does.
---     none_settings      the settings that stand for a job's until there is one
---     Recorded ..      every seed was fetched once and recorded, in order
-use Rattle.std.specs.Prelude.{◌≡◌, ◌≢◌, ℕ, ◌≤◌, IsTrue, List, ◌∷◌, ◌++◌, length, codes, None}
-use Rattle.crawl_kinds.specs.declared.settings.Settings.{Settings}
+--     first_end events      the greatest end of the records that events cite in the first WARC file
+--     Recorded ..      the crawl was opened, and each item that waits was visited and recorded, in order
+--     crawl_causes ..      the causes of its statuses
+use Rattle.std.specs.Prelude.{◌≡◌, ◌≢◌, ℕ, ◌+◌, ◌==◌, ◌≤◌, max, Bool, IsTrue, List, ◌++◌, length, take, None, Option, option_map, unwrap_or, fold, if◌then◌else◌}
+use Rattle.crawl_kinds.specs.declared.event.Body.{Body}
+use Rattle.crawl_kinds.specs.declared.event.Event.{Event}
+use Rattle.crawl_kinds.specs.declared.event.Event.TheVariants.{Session, Seeds, Emit, Finish}
+use Rattle.crawl_kinds.specs.declared.item.Item.{Item}
 use Rattle.crawl_traits.specs.Images.{Image}
-use Rattle.crawl_traits.specs.declared.file.FileId.{FileId}
-use Rattle.crawl_traits.specs.declared.file.FileId.TheVariants.{Journal, Warc}
+use Rattle.crawl_traits.specs.declared.file.FileId.TheVariants as file
 use Rattle.crawl_traits.specs.declared.link.Exchange.{Exchange}
-use Rattle.gate_log.specs.Blocks.{at_rest}
-use Rattle.seed_lines.specs.Adds.{adds_of}
-use Rattle.seed_lines.specs.Seeds.{Reads}
-use Rattle.crawl_pages.specs.Visits.{Visit, bodies, warc, log, exchanges}
-use Rattle.crawl_pages.specs.Ends.{World, AreVisits}
-use Rattle.crawl_cli.specs.Top.{most_text, time_at, block_of}
+use Rattle.crawl_traits.specs.declared.link.LinkFault.{LinkFault}
+use Rattle.crawl_history.specs.History.{history_of, last_time, ticket_count}
+use Rattle.frontier_core.specs.Waiting.{IsWaitingList}
+use Rattle.open_crawl.specs.JobFile.{HoldsText}
+use Rattle.recover_journal.specs.Holds.{journal_file, HoldsEvents}
+use Rattle.crawl_visits.specs.Crawl.{warc_file, Others}
+use Rattle.crawl_visits.specs.Ends.{World, world, AreVisits}
+use Rattle.crawl_visits.specs.Visits.{Visit, events, warc, log, exchanges}
+use Rattle.job_commands.specs.Causes.{Causes}
+use Rattle.job_commands.specs.Opened.{Reopened, events_then, IsDamaged}
 
--- no name, one try, no delays, and the usual limits
-abbrev pub none_settings : Settings
-none_settings =
-    record {
-      name = codes "none";
-      agent = codes "none";
-      contact = codes "http://localhost/";
-      proxy = None;
-      workers = 25;
-      delay_factor = 0;
-      min_delay_ms = 0;
-      max_delay_ms = 0;
-      max_crawl_delay_s = 0;
-      max_tries = 1;
-      retry_delay_s = 0;
-      timeout_ms = 20000;
-      host_budget = 0;
-      max_pages = 0;
-      max_bytes = 0;
-      max_seconds = 0;
-      max_keys = 2000000;
-      max_response_bytes = 8388608;
-      warc_max_bytes = 1000000000;
-      checkpoint_finishes = 10000;
-    }
+-- where the record of a body ends in the first WARC file, or 0 where it stands in another
+abbrev pub end_of : Body → ℕ
+end_of body = if body.spot.file == 0 then body.spot.at + body.spot.len else 0
 
--- The text is these seeds. The journal is their block and then, for each item that they add, in order, the block of its
--- visit; the first WARC file is the records of the visits from its first byte on; the output gained a line for each;
--- and no other file changed.
-pub record Recorded (w : World) (text : List ℕ) (before after : Image) (written shown : List ℕ) (went gone : List Exchange) : Type 0 where
-  pub seeds : List (List ℕ)
-  pub read : Reads text seeds
-  pub most : length text ≤ most_text
-  pub moment : ℕ
-  pub given : w.gives moment
+-- where the record that an event cites ends there
+abbrev pub cited_end : Event → ℕ
+cited_end (Finish time caller ticket item end adds) = unwrap_or (option_map end_of end.body) 0
+cited_end (Session time job format) = 0
+cited_end (Seeds time list adds) = 0
+cited_end (Emit time caller ticket verdict item) = 0
+
+-- the greatest end of the records that events cite there
+abbrev pub first_end : List Event → ℕ
+first_end events = fold (λ n e. max n (cited_end e)) 0 events
+
+-- the first WARC file reaches the ends of the records that the journal cites there
+abbrev pub IsReached : Image → Type 0
+IsReached image = (events : List Event) → HoldsEvents events (image journal_file) → first_end events ≤ length (image warc_file)
+
+-- The crawl was opened, and each item that waits then was visited, in the order of the queues. The journal holds the events of
+-- the visits behind those; the WARC file has their records behind the last one that was cited, from which anything behind it
+-- is gone; the output gained a line for each; and no other file changed.
+pub record Recorded (gives : ℕ → Type 0) (faults_before faults_after : LinkFault → ℕ) (tells : Bool) (before after : Image) (written shown : List ℕ) (went gone : List Exchange) : Type 0 where
+  pub crawl : Reopened gives before
+  pub items : List Item
+  pub wait : IsWaitingList (history_of (events_then crawl)) items
   pub visits : List Visit
-  pub are : AreVisits w 0 (time_at moment) (adds_of seeds) visits
-  pub journal : after (Journal 0) ≡ at_rest (block_of (time_at moment) seeds ∷ bodies 1 visits)
-  pub records : after (Warc 0) ≡ warc visits
-  pub others : (f : FileId) → f ≢ Journal 0 → f ≢ Warc 0 → after f ≡ before f
+  pub are : AreVisits (world gives faults_before faults_after tells crawl.opens.job.settings) (first_end (events_then crawl)) (last_time (history_of (events_then crawl))) items visits
+  pub holds : HoldsEvents (events_then crawl ++ events (ticket_count (history_of (events_then crawl)) + 1) visits) (after journal_file)
+  pub records : after warc_file ≡ take (first_end (events_then crawl)) (before warc_file) ++ warc visits
+  pub others : Others before after
   pub lines : shown ≡ written ++ log visits
-  pub over_link : IsTrue w.tells → gone ≡ went ++ exchanges visits
+  pub over_link : IsTrue tells → gone ≡ went ++ exchanges visits
+
+-- there is no job where the job file counts no block
+abbrev pub crawl_causes : (volume sink : Type 0) → Bool → Image → Causes
+crawl_causes volume sink tells before = record {
+  volume = volume;
+  sink = sink;
+  source = ⊥;
+  refused = λ f. ⊥;
+  damaged = λ f at. IsTrue tells → IsDamaged before f at;
+  full = λ known adds. ⊥;
+  no_job = IsTrue tells → HoldsText None (before file.Job);
+  job_there = ⊥;
+}

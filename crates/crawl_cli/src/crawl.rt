@@ -1,73 +1,118 @@
-// `crawl`: the seeds are committed as `enqueue` commits them, and each item is fetched once and recorded.
-ghost use Rattle.std.specs.Prelude.{◌≡◌, ◌≢◌, ◌≤◌, ◌<◌, ◌++◌, [], ℕ, List, length, IsTrue, OnOk, OnErr, IfOk, IfErr, MatchResult, true};
+// `crawl`: the crawl that a volume keeps is opened, and each item that waits is visited once.
+ghost use Rattle.std.specs.Prelude.{◌≡◌, ◌≢◌, ◌≤◌, ◌++◌, [], ℕ, List, All, map, IsTrue, OnOk, OnErr, IfOk, IfErr};
+ghost use Rattle.std.specs.List.{AllByRecursion};
+ghost use Rattle.std.specs.String.{string_bytes};
+ghost use Rattle.crawl_kinds.specs.Address.{IsUri};
+ghost use Rattle.crawl_kinds.specs.declared.event.TheConstants.{MAX_MS as latest};
+ghost use Rattle.crawl_history.specs.History.{history_of, last_time, ticket_count};
 ghost use Rattle.crawl_traits.specs.Causes.{Rose};
-ghost use Rattle.crawl_traits.specs.declared.file.FileId.{FileId};
 ghost use Rattle.crawl_traits.specs.declared.link.LinkFault.{LinkFault as Fault};
-ghost use Rattle.seed_lines.specs.Seeds.{Reads};
-ghost use Rattle.crawl_pages.specs.Ends.{world};
-ghost use Rattle.crawl_cli.specs.Answers.{status_text, IsRefusal, IsPastJournal, SaysText, Gains};
-ghost use Rattle.crawl_cli.specs.Causes.{IsEnqueueFault};
-ghost use Rattle.crawl_cli.specs.Crawl.{Recorded, none_settings};
-ghost use Rattle.crawl_cli.specs.Top.{most_text};
+ghost use Rattle.journal_valid.specs.Valid.{IsEvent};
+ghost use Rattle.open_crawl.specs.JobFile.{IsTextOfJob};
+ghost use Rattle.job_commands.specs.Causes.{IsCaused};
+ghost use Rattle.job_commands.specs.Opened.{KeepsJob};
+ghost use Rattle.job_commands.specs.Statuses.{IsRefusal};
+ghost use Rattle.crawl_cli.specs.Crawl.{IsReached, Recorded, cited_end, crawl_causes, first_end};
+ghost use Rattle.crawl_cli.specs.Run.{Crawls};
 
-use crate::opening::{open_core, opening_frame};
-use crate::say::{say, say_usage};
-use crate::seeds::take_seeds;
-use crate::status::{JobFault, Status};
-use crate::store::{check_empty, commit};
-use crawl_pages::Why;
-use crawl_traits::{Clock, FileId, Link, Sink, Source, Volume};
+use crawl_kinds::Event;
+use crawl_traits::{Clock, Link, Sink, Volume};
+use crawl_visits::{Start, Why};
+use frontier_core::Frontier;
+use job_commands::{status_of, status_of_load};
+use job_order::Job;
+use job_ranges::job_is_in_range;
+use open_crawl::{OpenCrawl, read_job};
+use program_status::{Status, say};
+use recover_journal::{a_journal_at_rest, one_journal};
 use std::alloc::Global;
 
-/// Commits the seeds of the source, fetches each item once over the link, and records it.
-pub fn crawl_seeds<V: Volume, S: Source, W: Sink, L: Link, C: Clock>(
+/// Where the record that an event cites ends in the first WARC file, or 0.
+fn cited_end(event: &Event) -> u64
+    requires { IsEvent event.now }
+    ensures { result ≡ cited_end event.now }
+{
+    match event {
+        Event::Finish { end, .. } => match &end.body {
+            Some(body) if body.spot.file == 0 => body.spot.at + body.spot.len,
+            _ => 0,
+        },
+        _ => 0,
+    }
+}
+
+/// The greatest end of the records that events cite there.
+fn first_end(events: &[Event]) -> u64
+    requires { AllByRecursion IsEvent events.now }
+    ensures { result ≡ first_end events.now }
+{
+    let mut end = 0;
+    for event in events {
+        end = end.max(cited_end(event));
+    }
+    end
+}
+
+/// Where a crawl goes on after the events of a core.
+fn start_of(frontier: &Frontier) -> Start
+    requires { AllByRecursion IsEvent frontier.now.events }
+    ensures time { result.time ≡ last_time (history_of frontier.now.events) }
+    ensures tickets { result.tickets ≡ ticket_count (history_of frontier.now.events) }
+    ensures end { result.end ≡ first_end frontier.now.events }
+{
+    Start {
+        time: frontier.last_time(),
+        tickets: frontier.tickets(),
+        end: first_end(frontier.events()),
+    }
+}
+
+/// Opens the crawl of a job, and visits each item that waits.
+fn visit<V: Volume, W: Sink, L: Link, C: Clock>(
     alloc: Global,
-    source: &mut S,
+    job: Job,
     volume: &mut V,
     out: &mut W,
     link: &mut L,
     clock: &C,
 ) -> Result<(), Status>
-    ensures done { IsTrue (S.tells source.old) → IsTrue (V.tells volume.old) → IsTrue (W.tells out.old) → OnOk result
-        (Recorded (world (C.gives clock.now) (L.faults link.old) (L.faults link.new) (L.tells link.old) none_settings) (S.left source.old)
+    requires job { (text : List ℕ) × IsTextOfJob text job }
+    requires forms { All IsUri job.seeds }
+    ensures done { IsTrue (V.tells volume.old) → IsTrue (W.tells out.old) → KeepsJob (V.contents volume.old) job → IsReached (V.contents volume.old) → OnOk result
+        (Recorded (C.gives clock.now) (L.faults link.old) (L.faults link.new) (L.tells link.old)
         (V.contents volume.old) (V.contents volume.new) (W.written out.old) (W.written out.new) (L.exchanges link.old) (L.exchanges link.new)) }
-    ensures left { IsTrue (S.tells source.old) → OnOk result (S.left source.new ≡ []) }
-    ensures first { IsTrue (V.tells volume.old) → MatchResult result (λ _. length (V.contents volume.old (FileId.Journal 0)) < 2) (λ s. IsPastJournal s → length (V.contents volume.old (FileId.Journal 0)) < 2) }
-    ensures kept { IfErr result (λ s. IsRefusal s → V.contents volume.new ≡ V.contents volume.old) }
-    ensures silent { IfErr result (λ s. IsRefusal s → W.written out.new ≡ W.written out.old) }
+    ensures caused { IfErr result (λ s. IsRefusal s → ⊥) × IfErr result (IsCaused (crawl_causes (Rose (V.faults volume.old) (V.faults volume.new)) (Rose (W.faults out.old) (W.faults out.new)) (V.tells volume.old) (V.contents volume.old))) }
     ensures grown { IsTrue (W.tells out.old) → (lines : List ℕ) × (W.written out.new ≡ W.written out.old ++ lines) }
-    ensures tells { W.tells out.new ≡ W.tells out.old }
-    ensures later_volume { V.faults volume.old ≤ V.faults volume.new }
-    ensures later_sink { W.faults out.old ≤ W.faults out.new }
-    ensures later_source { S.faults source.old ≤ S.faults source.new }
+    ensures tells { (W.tells out.new ≡ W.tells out.old) × (L.tells link.new ≡ L.tells link.old) }
+    ensures later { (V.faults volume.old ≤ V.faults volume.new) × (W.faults out.old ≤ W.faults out.new) }
     ensures later_link { (fault : Fault) → L.faults link.old fault ≤ L.faults link.new fault }
-    ensures link_tells { L.tells link.new ≡ L.tells link.old }
-    ensures fault { IfErr result (IsEnqueueFault
-        (Rose (V.faults volume.old) (V.faults volume.new))
-        (Rose (W.faults out.old) (W.faults out.new))
-        (Rose (S.faults source.old) (S.faults source.new))
-        (IsTrue (V.tells volume.old) → 2 ≤ length (V.contents volume.old (FileId.Journal 0)))
-        (IsTrue (S.tells source.old) → most_text < length (S.left source.old))
-        (IsTrue (S.tells source.old) → (length (S.left source.old) ≤ most_text) × ((seeds : List (List ℕ)) → Reads (S.left source.old) seeds → ⊥))) }
 {
-    match check_empty(volume) {
-        Ok(()) => {}
-        Err(status) => return Err(status),
-    }
-    let seeds = match take_seeds(alloc, source) {
-        Ok(seeds) => seeds,
-        Err(status) => return Err(status),
+    job_is_in_range();
+    one_journal();
+    a_journal_at_rest::<V>();
+    let crawl = match OpenCrawl::open(alloc, volume, job, clock.now()) {
+        Ok(crawl) => crawl,
+        Err(fault) => return Err(status_of(fault)),
     };
-    let Ok(mut core) = open_core(alloc, &seeds, clock.now()) else {
+    let Ok(items) = crawl.waiting(alloc) else {
         return Err(Status::NoMemory);
     };
-    let Ok(frame) = opening_frame(alloc, &core) else {
-        return Err(Status::NoMemory);
-    };
-    let Ok(mut log) = commit(volume, &frame) else {
-        return Err(Status::VolumeFault);
-    };
-    match crawl_pages::crawl(alloc, &mut core, &mut log, volume, out, link, clock) {
+    let start = start_of(&crawl.frontier);
+    let OpenCrawl {
+        frontier,
+        mut journal,
+    } = crawl;
+    match crawl_visits::crawl(
+        alloc,
+        frontier.settings(),
+        items.as_slice(),
+        start,
+        &mut journal,
+        volume,
+        out,
+        link,
+        clock,
+    ) {
         Ok(()) => Ok(()),
         Err(Why::Volume) => Err(Status::VolumeFault),
         Err(Why::Sink) => Err(Status::SinkFault),
@@ -75,43 +120,54 @@ pub fn crawl_seeds<V: Volume, S: Source, W: Sink, L: Link, C: Clock>(
     }
 }
 
-/// Does `crawl` where no word follows it.
-pub fn crawl_command<V: Volume, S: Source, W: Sink, L: Link, C: Clock>(
+/// Visits each item that waits in the crawl that the volume keeps.
+fn crawl_job<V: Volume, W: Sink, L: Link, C: Clock>(
+    alloc: Global,
+    volume: &mut V,
+    out: &mut W,
+    link: &mut L,
+    clock: &C,
+) -> Result<(), Status>
+    ensures done { IsTrue (V.tells volume.old) → IsTrue (W.tells out.old) → IsReached (V.contents volume.old) → OnOk result
+        (Recorded (C.gives clock.now) (L.faults link.old) (L.faults link.new) (L.tells link.old)
+        (V.contents volume.old) (V.contents volume.new) (W.written out.old) (W.written out.new) (L.exchanges link.old) (L.exchanges link.new)) }
+    ensures caused { IfErr result (IsCaused (crawl_causes (Rose (V.faults volume.old) (V.faults volume.new)) (Rose (W.faults out.old) (W.faults out.new)) (V.tells volume.old) (V.contents volume.old))) }
+    ensures kept { IfErr result (λ s. IsRefusal s → V.contents volume.new ≡ V.contents volume.old) }
+    ensures silent { IfErr result (λ s. IsRefusal s → W.written out.new ≡ W.written out.old) }
+    ensures grown { IsTrue (W.tells out.old) → (lines : List ℕ) × (W.written out.new ≡ W.written out.old ++ lines) }
+    ensures tells { (W.tells out.new ≡ W.tells out.old) × (L.tells link.new ≡ L.tells link.old) }
+    ensures later { (V.faults volume.old ≤ V.faults volume.new) × (W.faults out.old ≤ W.faults out.new) }
+    ensures later_link { (fault : Fault) → L.faults link.old fault ≤ L.faults link.new fault }
+{
+    match read_job(alloc, volume) {
+        Ok(job) => match visit(alloc, job, volume, out, link, clock) {
+            Ok(()) => Ok(()),
+            Err(status) => Err(status),
+        },
+        Err(fault) => Err(status_of_load(fault)),
+    }
+}
+
+/// Does `crawl` with the words behind it.
+pub fn crawl_command<V: Volume, W: Sink, L: Link, C: Clock>(
     alloc: Global,
     more: &[String],
-    source: &mut S,
     volume: &mut V,
     out: &mut W,
     link: &mut L,
     clock: &C,
 ) -> Status
-    ensures usage { (more.now ≡ [] → (i : ℕ) → result ≢ Status.Usage i) × (more.now ≢ [] → result ≡ Status.Usage 1) }
-    ensures done { result ≡ Status.Done → IsTrue (S.tells source.old) → IsTrue (V.tells volume.old) → IsTrue (W.tells out.old)
-        → Recorded (world (C.gives clock.now) (L.faults link.old) (L.faults link.new) (L.tells link.old) none_settings) (S.left source.old)
-        (V.contents volume.old) (V.contents volume.new) (W.written out.old) (W.written out.new) (L.exchanges link.old) (L.exchanges link.new) }
-    ensures left { result ≡ Status.Done → IsTrue (S.tells source.old) → S.left source.new ≡ [] }
-    ensures job_there { result ≡ Status.JobThere → IsTrue (V.tells volume.old) → 2 ≤ length (V.contents volume.old (FileId.Journal 0)) }
-    ensures no_job { IsPastJournal result → IsTrue (V.tells volume.old) → length (V.contents volume.old (FileId.Journal 0)) < 2 }
-    ensures too_long { result ≡ Status.JobRefused JobFault.TooLong → IsTrue (S.tells source.old) → most_text < length (S.left source.old) }
-    ensures bad_seed { result ≡ Status.JobRefused JobFault.BadSeed → IsTrue (S.tells source.old) → (length (S.left source.old) ≤ most_text) × ((seeds : List (List ℕ)) → Reads (S.left source.old) seeds → ⊥) }
-    ensures volume_fault { result ≡ Status.VolumeFault → Rose (V.faults volume.old) (V.faults volume.new) }
-    ensures sink_fault { result ≡ Status.SinkFault → Rose (W.faults out.old) (W.faults out.new) }
-    ensures source_fault { result ≡ Status.SourceFault → Rose (S.faults source.old) (S.faults source.new) }
-    ensures later { (V.faults volume.old ≤ V.faults volume.new) × (W.faults out.old ≤ W.faults out.new) × (S.faults source.old ≤ S.faults source.new) }
-    ensures kept { IsRefusal result → V.contents volume.new ≡ V.contents volume.old }
-    ensures said { SaysText result → IsTrue (W.tells out.old) → (lines : List ℕ) × Gains (Rose (W.faults out.old) (W.faults out.new)) (W.written out.old ++ lines) (W.written out.new) (status_text result) }
-    ensures refused { IsRefusal result → IsTrue (W.tells out.old) → Gains (Rose (W.faults out.old) (W.faults out.new)) (W.written out.old) (W.written out.new) (status_text result) }
-    ensures link_later { (fault : Fault) → L.faults link.old fault ≤ L.faults link.new fault }
-    ensures link_tells { L.tells link.new ≡ L.tells link.old }
+    ensures { Crawls V.Volume W.Sink L.Link (C.gives clock.now) (map string_bytes more.now) volume.old volume.new out.old out.new link.old link.new result }
 {
     if !more.is_empty() {
-        say_usage(out, 1);
-        return Status::Usage(1);
+        let status = Status::Usage(1);
+        say(out, &status);
+        return status;
     }
-    match crawl_seeds(alloc, source, volume, out, link, clock) {
+    match crawl_job(alloc, volume, out, link, clock) {
         Ok(()) => Status::Done,
         Err(status) => {
-            say(out, status);
+            say(out, &status);
             status
         }
     }

@@ -5,19 +5,9 @@ mod adapters;
 mod crawl;
 #[cfg(test)]
 mod crawl_tests;
-mod laws;
-mod opening;
-mod plan;
-mod queue;
 mod run;
-mod say;
-mod seeds;
-mod status;
-mod store;
-mod stream;
 #[cfg(test)]
 mod tests;
-mod top;
 
 use adapters::{StdSink, StdSource};
 use crawl_memory::{MemClock, MemLink, MemVolume, Site};

@@ -1,13 +1,14 @@
 // The call that the program makes.
-ghost use Rattle.std.specs.Prelude.{◌≡◌, ◌≤◌, ◌∷◌, List, length, map, true, false, codes, vec_len};
+ghost use Rattle.std.specs.Prelude.{◌≡◌, ◌≤◌, ◌∷◌, List, length, map, true, false, codes};
 ghost use Rattle.std.specs.Str.{bytes_eq};
 ghost use Rattle.std.specs.String.{string_bytes};
-ghost use Rattle.crawl_cli.specs.Run.{Crawls, Tends, is_crawl};
+ghost use Rattle.job_commands.specs.Tends.{Tends};
+ghost use Rattle.crawl_cli.specs.Run.{Crawls, is_crawl, words_after};
 
 use crate::crawl::crawl_command;
-use crate::status::Status;
-use crate::top::tend;
 use crawl_traits::{Clock, Link, Sink, Source, Volume};
+use job_commands::tend;
+use program_status::Status;
 use std::alloc::Global;
 
 /// What a call leaves: how it ended, and the volume, the output and the links that were handed in.
@@ -25,9 +26,9 @@ fn is_crawl(word: &String) -> bool
     word.as_str() == "crawl"
 }
 
-/// Does what the words say. `crawl` reads seed lines from the source, commits them to the journal as `enqueue` does, and
-/// fetches each item once, in order, over the first link: a whole response is recorded in the first WARC file, the item's
-/// events in the journal, and `CODE URI` is written to the output. All other words are handed to `tend`. It takes 1 to 32
+/// Does what the words say. `crawl` opens the crawl of the job that the volume keeps, and visits each item that waits once, in
+/// the order of its queues, over the first link: a whole response is recorded in the first WARC file, the item's events in the
+/// journal, and `CODE URI` is written to the output. It reads no source. All other words are handed to `tend`. It takes 1 to 32
 /// links, and gives them back in order.
 pub fn run<V: Volume, S: Source, W: Sink, L: Link, C: Clock>(
     alloc: Global,
@@ -40,15 +41,15 @@ pub fn run<V: Volume, S: Source, W: Sink, L: Link, C: Clock>(
 ) -> Ran<V, W, L>
     requires links { (1 ≤ length links.items) × (length links.items ≤ 32) }
     ensures crawls { is_crawl (map string_bytes words.now) ≡ true → (first : L) (more : List L) → links.items ≡ first ∷ more
-        → (link : L) × (result.links.items ≡ link ∷ more)
-        × Crawls V.Volume S.Source W.Sink (C.gives clock.now) (map string_bytes words.now) job.old job.new volume result.volume out result.out result.status L.Link first link }
+        → (link : L) × (result.links.items ≡ link ∷ more) × (job.new ≡ job.old)
+        × Crawls V.Volume W.Sink L.Link (C.gives clock.now) (words_after (map string_bytes words.now)) volume result.volume out result.out first link result.status }
     ensures others { is_crawl (map string_bytes words.now) ≡ false → (result.links.items ≡ links.items)
-        × Tends V.Volume S.Source W.Sink (C.gives clock.now) (map string_bytes words.now) job.old job.new volume result.volume out result.out result.status }
+        × Tends V.Volume S.Source W.Sink (C.gives clock.now) job.old job.new volume result.volume out result.out result.status (map string_bytes words.now) }
 {
     if let [word, more @ ..] = words {
         if is_crawl(word) {
             let link = &mut links[0];
-            let status = crawl_command(alloc, more, job, &mut volume, &mut out, link, clock);
+            let status = crawl_command(alloc, more, &mut volume, &mut out, link, clock);
             return Ran {
                 status,
                 volume,

@@ -1,28 +1,40 @@
-// Worked examples over the forms in memory, bad input, and each call of the good run failing in turn.
-use crate::laws::examples_hold;
-use crate::status::{JobFault, Status};
-use crate::top::{Tended, tend};
-use crawl_memory::{MemClock, MemSink, MemSource, MemVolume};
-use crawl_traits::{FileId, StoreFault, Volume};
-use gate_log::{GateLog, read_log};
+// A job's life over the forms in memory: worked examples, bad input, and each call failing in turn.
+use crate::run::{Ran, run};
+use crawl_memory::{MemClock, MemLink, MemSink, MemSource, MemVolume, Site};
+use crawl_traits::{FileId, Volume};
 use std::alloc::Global;
 use std::process::Abort;
 use std::test::Fail;
 
 const START: u64 = 1_700_000_000_000;
 
-const LINES: &[u8; 31] = b"http://a.test/\nhttp://b.test/x\n";
+const JOB: &str =
+    "name = \"sample\"\nagent = \"sampler\"\ncontact = \"http://example.org/bot\"\nseeds = \"\"\"\nhttp://a.test/\nhttp://b.test/x\n\"\"\"\n";
 
-const QUEUE: &[u8; 47] = b"test,a, http://a.test/\ntest,b, http://b.test/x\n";
+/// The journal of that job after `init`: an open gate, a block of 125 bytes, a closed gate.
+const JOURNAL: &str =
+    "+0000007d\nS+ 1700000000000 sample 1\nS* 1700000000000\nSd http://a.test/\nSd http://b.test/x\nF+ http://a.test/ - -\nF+ http://b.test/x - -\n-";
 
-/// The journal after the two seeds: an open gate, a block of 123 bytes, a closed gate.
-const JOURNAL: &[u8; 134] =
-    b"+0000007b\nS+ 1700000000000 none 1\nS* 1700000000000\nSd http://a.test/\nSd http://b.test/x\nF+ http://a.test/ - -\nF+ http://b.test/x - -\n-";
+type Left = Ran<MemVolume, MemSink, MemLink>;
 
-/// The journal after no seeds.
-const NO_SEEDS: &[u8; 52] = b"+00000029\nS+ 1700000000000 none 1\nS* 1700000000000\n-";
+/// A call: its words, what its source holds, and which calls of the source and of the sink fail, 0 for none.
+#[derive(Clone, Copy)]
+struct Call<'a> {
+    words: &'a [&'a str],
+    text: &'a [u8],
+    source_fault: u64,
+    sink_fault: u64,
+}
 
-type Left = Tended<MemVolume, MemSink>;
+/// A call without faults.
+fn faultless<'a>(words: &'a [&'a str], text: &'a [u8]) -> Call<'a> {
+    Call {
+        words,
+        text,
+        source_fault: 0,
+        sink_fault: 0,
+    }
+}
 
 /// Numbers of calls that fail: one, or none for 0.
 fn failing(alloc: Global, call: u64) -> Result<Vec<u64>, Fail> {
@@ -33,230 +45,251 @@ fn failing(alloc: Global, call: u64) -> Result<Vec<u64>, Fail> {
     Ok(calls)
 }
 
-/// What a call with these words leaves, where a call of the source and one of the sink fail.
-fn tended(
-    alloc: Global,
-    words: &[&str],
-    lines: &[u8],
-    volume: MemVolume,
-    faults: (u64, u64),
-) -> Result<Left, Fail> {
-    let mut owned = Vec::new(alloc);
-    for word in words {
-        owned.push(String::from_str(alloc, word)?)?;
+/// What a call leaves of a volume.
+fn left(alloc: Global, call: Call<'_>, volume: MemVolume) -> Result<Left, Fail> {
+    let mut words = Vec::new(alloc);
+    for word in call.words {
+        words.push(String::from_str(alloc, word)?)?;
     }
-    let mut source = MemSource::new(lines.to_vec(alloc)?, failing(alloc, faults.0)?);
-    let sink = MemSink::new(alloc, failing(alloc, faults.1)?);
+    let faults = failing(alloc, call.source_fault)?;
+    let mut source = MemSource::new(call.text.to_vec(alloc)?, faults);
+    let sink = MemSink::new(alloc, failing(alloc, call.sink_fault)?);
+    let mut links = Vec::new(alloc);
+    links.push(MemLink::new(alloc, Site::new(alloc), Vec::new(alloc)))?;
     let clock = MemClock::at(START);
-    Ok(tend(alloc, &owned, &mut source, volume, sink, &clock))
+    Ok(run(alloc, &words, &mut source, volume, sink, links, &clock))
 }
 
-/// How a call is to end: its status, the journal and the output.
-#[derive(Clone, Copy)]
-struct Want {
-    status: Status,
-    journal: &'static [u8],
-    out: &'static [u8],
-}
-
-/// A call on a new volume ends so.
-fn ends(
-    rt: &impl Abort,
-    alloc: Global,
-    words: &[&str],
-    lines: &[u8],
-    faults: (u64, u64),
-    want: &Want,
-) -> Result<(), Fail> {
-    let left = tended(alloc, words, lines, MemVolume::new(alloc), faults)?;
-    assert_eq!(rt; left.status, want.status);
-    assert_eq!(rt; left.volume.bytes(FileId::Journal(0)), want.journal);
-    assert_eq!(rt; left.out.bytes(), want.out);
+/// It ended with this number, and printed this.
+fn ended(rt: &impl Abort, left: &Left, code: u8, out: &str) -> Result<(), Fail> {
+    assert_eq!(rt; left.status.code(), code);
+    assert_eq!(rt; str::from_utf8(left.out.bytes()).or(Err("no text"))?, out);
     Ok(())
 }
 
-#[test]
-fn two_seeds_are_committed_and_shown(rt: HostRuntime) -> Result<(), Fail> {
-    let alloc = rt.alloc();
-    examples_hold();
-    let two = Want {
-        status: Status::Done,
-        journal: JOURNAL,
-        out: QUEUE,
-    };
-    ends(&rt, alloc, &["enqueue"], LINES, (0, 0), &two)?;
-    let none = Want {
-        status: Status::Done,
-        journal: NO_SEEDS,
-        out: b"",
-    };
-    ends(&rt, alloc, &["enqueue"], b"", (0, 0), &none)
+/// A volume on which `init` was called with a job's text.
+fn kept(alloc: Global, text: &str) -> Result<MemVolume, Fail> {
+    let init = faultless(&["init"], text.as_bytes());
+    Ok(left(alloc, init, MemVolume::new(alloc))?.volume)
 }
 
-#[test]
-fn a_second_enqueue_changes_nothing(rt: HostRuntime) -> Result<(), Fail> {
-    let alloc = rt.alloc();
-    let first = tended(alloc, &["enqueue"], LINES, MemVolume::new(alloc), (0, 0))?;
-    let second = tended(alloc, &["enqueue"], LINES, first.volume, (0, 0))?;
-    assert_eq!(rt; second.status, Status::JobThere);
-    assert_eq!(rt; second.volume.bytes(FileId::Journal(0)), JOURNAL.as_slice());
-    assert_eq!(rt; second.out.bytes(), b"job there\n".as_slice());
-    Ok(())
-}
-
-#[test]
-fn other_words_are_no_command(rt: HostRuntime) -> Result<(), Fail> {
-    let alloc = rt.alloc();
-    let second = Want {
-        status: Status::Usage(1),
-        journal: b"",
-        out: b"usage: word 1\n",
-    };
-    ends(&rt, alloc, &["enqueue", "now"], LINES, (0, 0), &second)?;
-    let first = Want {
-        status: Status::Usage(0),
-        journal: b"",
-        out: b"usage: word 0\n",
-    };
-    ends(&rt, alloc, &[], LINES, (0, 0), &first)?;
-    ends(&rt, alloc, &["crawl"], LINES, (0, 0), &first)
-}
-
-/// `http://`, a host's first label of so many letters, and so many bytes of path.
-fn long_line(alloc: Global, label: usize, path: usize) -> Result<Vec<u8>, Fail> {
-    let mut line = b"http://".to_vec(alloc)?;
-    line.resize(line.len().saturating_add(label), b'h')?;
-    line.extend_from_slice(b".test/")?;
-    line.resize(line.len().saturating_add(path), b'p')?;
-    line.push(b'\n')?;
-    Ok(line)
-}
-
-#[test]
-fn refused_texts_change_nothing(rt: HostRuntime) -> Result<(), Fail> {
-    let alloc = rt.alloc();
-    let bad = Want {
-        status: Status::JobRefused(JobFault::BadSeed),
-        journal: b"",
-        out: b"job refused: BadSeed\n",
-    };
-    for text in [
-        b"http://a.test/".as_slice(),
-        b"HTTP://a.test/\n",
-        b"http://a.test/\n\n",
-    ] {
-        ends(&rt, alloc, &["enqueue"], text, (0, 0), &bad)?;
-    }
-    ends(
-        &rt,
-        alloc,
-        &["enqueue"],
-        &long_line(alloc, 64, 0)?,
-        (0, 0),
-        &bad,
-    )?;
-    ends(
-        &rt,
-        alloc,
-        &["enqueue"],
-        &long_line(alloc, 1, 2070)?,
-        (0, 0),
-        &bad,
-    )?;
-    let long = Want {
-        status: Status::JobRefused(JobFault::TooLong),
-        journal: b"",
-        out: b"job refused: TooLong\n",
-    };
-    let text = vec![in alloc; b'\n'; 1_048_577]?;
-    ends(&rt, alloc, &["enqueue"], &text, (0, 0), &long)
-}
-
-#[test]
-fn a_failing_source_or_sink_is_named(rt: HostRuntime) -> Result<(), Fail> {
-    let alloc = rt.alloc();
-    let source = Want {
-        status: Status::SourceFault,
-        journal: b"",
-        out: b"source fault\n",
-    };
-    for call in 1..3 {
-        ends(&rt, alloc, &["enqueue"], LINES, (call, 0), &source)?;
-    }
-    let sink = Want {
-        status: Status::SinkFault,
-        journal: JOURNAL,
-        out: b"",
-    };
-    ends(&rt, alloc, &["enqueue"], LINES, (0, 1), &sink)
-}
-
-/// How many blocks the journal counts after its k-th call failed, once it is opened again without faults.
-fn blocks_after(rt: &impl Abort, alloc: Global, call: u64) -> Result<usize, Fail> {
-    let volume = MemVolume::with_faults(alloc, failing(alloc, call)?);
-    let mut left = tended(alloc, &["enqueue"], LINES, volume, (0, 0))?;
-    assert_eq!(rt; left.status, Status::VolumeFault);
-    assert_eq!(rt; left.out.bytes(), b"volume fault\n".as_slice());
-    let read = read_log(alloc, &mut left.volume, FileId::Journal(0)).or(Err("unread"))?;
-    Ok(read.as_slice().len())
-}
-
-#[test]
-fn a_failing_volume_is_named_and_leaves_none_or_all(rt: HostRuntime) -> Result<(), Fail> {
-    let alloc = rt.alloc();
-    for call in 1..8 {
-        assert_eq!(rt; blocks_after(&rt, alloc, call)?, 0, "call {call}");
-    }
-    assert_eq!(rt; blocks_after(&rt, alloc, 8)?, 1);
-    Ok(())
-}
-
-#[test]
-fn a_log_is_opened_again(rt: HostRuntime) -> Result<(), Fail> {
-    let alloc = rt.alloc();
-    let mut left = tended(alloc, &["enqueue"], LINES, MemVolume::new(alloc), (0, 0))?;
-    let (_log, blocks) = GateLog::open(alloc, &mut left.volume, FileId::Journal(0)).or(Err(
-        "unopened",
-    ))?;
-    assert_eq!(rt; blocks.as_slice().len(), 1);
-    Ok(())
-}
-
-/// How reading a log of these bytes ends: how many blocks it counts, or the gate at which it is damaged.
-fn read(alloc: Global, bytes: &[u8]) -> Result<Result<usize, u64>, Fail> {
+/// A volume with these files.
+fn volume_of(alloc: Global, job: &[u8], journal: &[u8]) -> Result<MemVolume, Fail> {
     let mut volume = MemVolume::new(alloc);
-    volume.write_at(FileId::Journal(0), 0, bytes)?;
-    match read_log(alloc, &mut volume, FileId::Journal(0)) {
-        Ok(blocks) => Ok(Ok(blocks.as_slice().len())),
-        Err(StoreFault::Damaged { at, .. }) => Ok(Err(at)),
-        Err(_) => Err(Fail::from("neither")),
-    }
+    volume.write_at(FileId::Job, 0, job)?;
+    volume.write_at(FileId::Journal(0), 0, journal)?;
+    Ok(volume)
 }
 
 #[test]
-fn a_log_is_read_or_damaged_at_a_gate(rt: HostRuntime) -> Result<(), Fail> {
+fn a_job_is_kept_once(rt: HostRuntime) -> Result<(), Fail> {
     let alloc = rt.alloc();
-    let read_so: [(&[u8], usize); 6] = [
-        (b"", 0),
-        (b"+", 0),
-        (b"-+00000001\nx-", 0),
-        (b"+00000001\nx-", 1),
-        (b"+00000001\nx+00000002\nyz-", 2),
-        (b"+00000001\nx-behind", 1),
+    let init = faultless(&["init"], JOB.as_bytes());
+    let first = left(alloc, init, MemVolume::new(alloc))?;
+    ended(&rt, &first, 0, "")?;
+    let job = first.volume.bytes(FileId::Job);
+    assert_eq!(rt; job.len(), 127);
+    assert!(rt; job.starts_with(b"+00000074\nname = "));
+    assert_eq!(rt; first.volume.bytes(FileId::Journal(0)), JOURNAL.as_bytes());
+    let second = left(alloc, init, first.volume)?;
+    ended(&rt, &second, 9, "job there\n")?;
+    assert_eq!(rt; second.volume.bytes(FileId::Job).len(), 127);
+    assert_eq!(rt; second.volume.bytes(FileId::Journal(0)), JOURNAL.as_bytes());
+    Ok(())
+}
+
+#[test]
+fn other_words_and_volumes_without_a_job_are_refused(rt: HostRuntime) -> Result<(), Fail> {
+    let alloc = rt.alloc();
+    let refused: [(&[&str], u8, &str); 7] = [
+        (&[], 1, "usage: word 0\n"),
+        (&["report"], 1, "usage: word 0\n"),
+        (&["init", "now"], 1, "usage: word 1\n"),
+        (&["enqueue", "a", "b"], 1, "usage: word 1\n"),
+        (&["crawl", "now"], 1, "usage: word 1\n"),
+        (&["crawl"], 8, "no job\n"),
+        (&["enqueue"], 8, "no job\n"),
     ];
-    for (bytes, count) in read_so {
-        assert_eq!(rt; read(alloc, bytes)?, Ok(count));
+    for (words, code, out) in refused {
+        let left = left(alloc, faultless(words, b"+"), MemVolume::new(alloc))?;
+        ended(&rt, &left, code, out)?;
+        assert_eq!(rt; left.volume.bytes(FileId::Journal(0)).len(), 0);
     }
-    let damaged_at: [(&[u8], u64); 6] = [
-        (b"+0000000A\n0123456789-", 0),
-        (b"+00000000\n-", 0),
-        (b"+00000010\nS+", 0),
-        (b"+00000001\nx", 0),
-        (b"+00000001 x-", 0),
-        (b"+00000001\nx+00000002\ny-", 11),
+    Ok(())
+}
+
+/// A text that is refused, and its line.
+fn refuses(rt: &impl Abort, alloc: Global, text: &[u8], line: &str) -> Result<(), Fail> {
+    let left = left(alloc, faultless(&["init"], text), MemVolume::new(alloc))?;
+    ended(rt, &left, 2, line)?;
+    assert_eq!(rt; left.volume.bytes(FileId::Job).len(), 0);
+    assert_eq!(rt; left.volume.bytes(FileId::Journal(0)).len(), 0);
+    Ok(())
+}
+
+/// The sample job with one more line in front.
+fn job_with(alloc: Global, line: &str) -> Result<Vec<u8>, Fail> {
+    let mut text = line.as_bytes().to_vec(alloc)?;
+    text.extend_from_slice(JOB.as_bytes())?;
+    Ok(text)
+}
+
+#[test]
+fn a_text_that_is_no_job_changes_nothing(rt: HostRuntime) -> Result<(), Fail> {
+    let alloc = rt.alloc();
+    let rule = "[[rule]]\nkind = \"regex\"\nanswer = \"accept\"\npatterns = [\"(\"]\n";
+    for (front, line) in [
+        ("speed = 1\n", "job refused: UnknownName speed\n"),
+        ("workers = 33\n", "job refused: OutOfRange workers\n"),
+        ("max_keys = 1\n", "job refused: OutOfRange seeds\n"),
+        ("=", "job refused: NotToml\n"),
+    ] {
+        refuses(&rt, alloc, &job_with(alloc, front)?, line)?;
+    }
+    let mut pattern = JOB.as_bytes().to_vec(alloc)?;
+    pattern.extend_from_slice(rule.as_bytes())?;
+    refuses(&rt, alloc, &pattern, "job refused: BadPattern 0\n")?;
+    refuses(&rt, alloc, b"", "job refused: Missing name\n")?;
+    let long = vec![in alloc; b'\n'; 1_048_577]?;
+    refuses(&rt, alloc, &long, "job refused: TooLong\n")
+}
+
+#[test]
+fn seeds_are_added_within_the_scope_and_shown(rt: HostRuntime) -> Result<(), Fail> {
+    let alloc = rt.alloc();
+    let lines = faultless(&["enqueue"], b"http://a.test/new\n# note\nhttp://c.test/\n");
+    let queue = "test,a, http://a.test/\ntest,a, http://a.test/new\ntest,b, http://b.test/x\n";
+    let more = left(alloc, lines, kept(alloc, JOB)?)?;
+    ended(&rt, &more, 0, queue)?;
+    let none = left(alloc, faultless(&["enqueue"], b""), more.volume)?;
+    ended(&rt, &none, 0, queue)?;
+    for (lines, line) in [
+        ("+http://a.test/\n", "job refused: BadSeed 1\n"),
+        ("http://a.test/y\nhttp://\n", "job refused: BadSeed 2\n"),
+    ] {
+        let volume = kept(alloc, JOB)?;
+        let refused = left(alloc, faultless(&["enqueue"], lines.as_bytes()), volume)?;
+        ended(&rt, &refused, 2, line)?;
+        assert_eq!(rt;
+            refused.volume.bytes(FileId::Journal(0)),
+            JOURNAL.as_bytes()
+        );
+    }
+    Ok(())
+}
+
+#[test]
+fn a_seed_past_the_greatest_number_of_keys_is_left_out(rt: HostRuntime) -> Result<(), Fail> {
+    let alloc = rt.alloc();
+    let text = job_with(alloc, "max_keys = 2\n")?;
+    let init = left(alloc, faultless(&["init"], &text), MemVolume::new(alloc))?;
+    ended(&rt, &init, 0, "")?;
+    let one_more = faultless(&["enqueue"], b"http://a.test/new\n");
+    let full = left(alloc, one_more, init.volume)?;
+    ended(&rt, &full, 6, "full: 2 known, 1 new\n")?;
+    let journal = full.volume.bytes(FileId::Journal(0));
+    assert!(rt; journal.ends_with(b"\n+0000001a\nS+ 1700000000000 sample 1\n-"));
+    Ok(())
+}
+
+/// A job file and a journal that have no reading, and the line that says so.
+type Damage<'a> = (&'a [u8], &'a [u8], &'a str);
+
+#[test]
+fn files_without_a_reading_are_damaged_at_a_gate(rt: HostRuntime) -> Result<(), Fail> {
+    let alloc = rt.alloc();
+    let volume = kept(alloc, JOB)?;
+    let job = volume.bytes(FileId::Job);
+    let other_body = b"+00000003\na=1-".as_slice();
+    let ticket =
+        b"+0000001a\nS+ 1700000000000 sample 1\n+00000038\nFd http://a.test/ - - 1700000000000 0 9 -9998 - - - - - -\n-".as_slice();
+    let damaged: [Damage<'_>; 6] = [
+        (other_body, b"", "damaged: job at 0\n"),
+        (b"+00000010\nS+", b"", "damaged: job at 0\n"),
+        (job, b"+00000010\nS+", "damaged: journal.00000 at 0\n"),
+        (job, b"+00000002\nS+-", "damaged: journal.00000 at 0\n"),
+        (
+            job,
+            b"+00000019\nS+ 01 sample 1\n",
+            "damaged: journal.00000 at 0\n",
+        ),
+        (job, ticket, "damaged: journal.00000 at 36\n"),
     ];
-    for (bytes, at) in damaged_at {
-        assert_eq!(rt; read(alloc, bytes)?, Err(at));
+    for (job, journal, line) in damaged {
+        for word in ["crawl", "enqueue"] {
+            let volume = volume_of(alloc, job, journal)?;
+            ended(&rt, &left(alloc, faultless(&[word], b""), volume)?, 4, line)?;
+        }
     }
+    for journal in [b"".as_slice(), b"+"] {
+        let opened = left(
+            alloc,
+            faultless(&["enqueue"], b""),
+            volume_of(alloc, job, journal)?,
+        )?;
+        ended(
+            &rt,
+            &opened,
+            0,
+            "test,a, http://a.test/\ntest,b, http://b.test/x\n",
+        )?;
+    }
+    Ok(())
+}
+
+#[test]
+fn a_failing_source_or_output_is_named(rt: HostRuntime) -> Result<(), Fail> {
+    let alloc = rt.alloc();
+    let init = Call {
+        source_fault: 1,
+        ..faultless(&["init"], JOB.as_bytes())
+    };
+    let source = left(alloc, init, MemVolume::new(alloc))?;
+    ended(&rt, &source, 10, "source fault\n")?;
+    assert_eq!(rt; source.volume.bytes(FileId::Job).len(), 0);
+    let lines = faultless(&["enqueue"], b"http://a.test/new\n");
+    let second = Call {
+        source_fault: 2,
+        ..lines
+    };
+    let source = left(alloc, second, kept(alloc, JOB)?)?;
+    ended(&rt, &source, 10, "source fault\n")?;
+    assert_eq!(rt; source.volume.bytes(FileId::Journal(0)), JOURNAL.as_bytes());
+    let unshown = Call {
+        sink_fault: 1,
+        ..lines
+    };
+    let sink = left(alloc, unshown, kept(alloc, JOB)?)?;
+    ended(&rt, &sink, 5, "")?;
+    assert!(rt;
+        sink.volume
+            .bytes(FileId::Journal(0))
+            .ends_with(b"\nF+ http://a.test/new - -\n-")
+    );
+    Ok(())
+}
+
+/// Calls a command where each call of the volume fails in turn, and then again without a fault, which ends so. Tells how many
+/// calls the command makes.
+fn each_fails(rt: &impl Abort, alloc: Global, second: Call<'_>, codes: &[u8]) -> Result<u64, Fail> {
+    for number in 1..100 {
+        let volume = MemVolume::with_faults(alloc, failing(alloc, number)?);
+        let init = left(alloc, faultless(&["init"], JOB.as_bytes()), volume)?;
+        if init.status.code() == 0 {
+            return Ok(number);
+        }
+        ended(rt, &init, 3, "volume fault\n")?;
+        let code = left(alloc, second, init.volume)?.status.code();
+        assert!(rt; codes.contains(&code), "call {number}");
+    }
+    Err(Fail::from("no end"))
+}
+
+#[test]
+fn a_failing_volume_leaves_no_job_or_all_of_it(rt: HostRuntime) -> Result<(), Fail> {
+    let alloc = rt.alloc();
+    let again = faultless(&["init"], JOB.as_bytes());
+    assert!(rt; each_fails(&rt, alloc, again, &[0, 9])? > 15);
+    assert!(rt; each_fails(&rt, alloc, faultless(&["enqueue"], b""), &[0, 8])? > 15);
     Ok(())
 }

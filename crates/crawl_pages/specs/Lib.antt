@@ -1,4 +1,0 @@
-pub mod Crawl
-pub mod Ends
-pub mod Steps
-pub mod Visits
