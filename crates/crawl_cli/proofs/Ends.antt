@@ -4,9 +4,8 @@ use Rattle.std.specs.Prelude.{fold}
 use Rattle.std.specs.List.{AllByRecursion}
 use Rattle.std.proofs.lemmas.List.Sums.{fold-append}
 use Rattle.crawl_kinds.specs.declared.event.Event.{Event}
-use Rattle.crawl_kinds.specs.declared.settings.Settings.{Settings}
 use Rattle.job_order.specs.declared.read.Job.{Job}
-use Rattle.open_crawl.specs.Opening.{Begins, BeginsAnew, next_session}
+use Rattle.open_crawl.specs.Opening.{Begins, next_session}
 use Rattle.core_facts.specs.CoreFacts.{Pages}
 use Rattle.crawl_cli.specs.Crawl.{cited_end, first_end}
 

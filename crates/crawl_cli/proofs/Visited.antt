@@ -1,5 +1,5 @@
 -- Causes of statuses behind a reading of the job.
-use Rattle.std.proofs.Common.{◌≡◌, ℕ, None, ◌∙◌, subst}
+use Rattle.std.proofs.Common.{◌≡◌, None, ◌∙◌, subst}
 use Rattle.std.specs.Prelude.{Bool, IsTrue}
 use Rattle.crawl_traits.specs.Images.{Image}
 use Rattle.crawl_traits.specs.declared.file.FileId.TheVariants as file

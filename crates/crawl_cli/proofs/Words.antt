@@ -1,5 +1,5 @@
 -- The words behind the first, as texts and as bytes.
-use Rattle.std.proofs.Common.{◌≡◌, ◌≢◌, ℕ, ◌-◌, ◌≤◌, ◌==◌, Bool, true, false, ◌∙◌, List, [], ◌∷◌, length, take, drop, map, refl, sym, ap, arith}
+use Rattle.std.proofs.Common.{◌≡◌, ◌≢◌, ℕ, ◌-◌, ◌≤◌, ◌==◌, true, false, ◌∙◌, List, [], ◌∷◌, length, take, drop, map, refl, sym, ap, arith}
 use Rattle.std.proofs.lemmas.List.{take_rest}
 use Rattle.std.proofs.lemmas.Bool.Decides.{Decides-eqb}
 use Rattle.crawl_cli.specs.Run.{words_after}

@@ -2,7 +2,7 @@
 --     first_end events      the greatest end of the records that events cite in the first WARC file
 --     Recorded ..      the crawl was opened, and each item that waits was visited and recorded, in order
 --     crawl_causes ..      the causes of its statuses
-use Rattle.std.specs.Prelude.{◌≡◌, ◌≢◌, ℕ, ◌+◌, ◌==◌, ◌≤◌, max, Bool, IsTrue, List, ◌++◌, length, take, None, Option, option_map, unwrap_or, fold, if◌then◌else◌}
+use Rattle.std.specs.Prelude.{◌≡◌, ℕ, ◌+◌, ◌==◌, ◌≤◌, max, Bool, IsTrue, List, ◌++◌, length, take, None, option_map, unwrap_or, fold, if◌then◌else◌}
 use Rattle.crawl_kinds.specs.declared.event.Body.{Body}
 use Rattle.crawl_kinds.specs.declared.event.Event.{Event}
 use Rattle.crawl_kinds.specs.declared.event.Event.TheVariants.{Session, Seeds, Emit, Finish}
@@ -16,7 +16,7 @@ use Rattle.frontier_core.specs.Waiting.{IsWaitingList}
 use Rattle.open_crawl.specs.JobFile.{HoldsText}
 use Rattle.recover_journal.specs.Holds.{journal_file, HoldsEvents}
 use Rattle.crawl_visits.specs.Crawl.{warc_file, Others}
-use Rattle.crawl_visits.specs.Ends.{World, world, AreVisits}
+use Rattle.crawl_visits.specs.Ends.{world, AreVisits}
 use Rattle.crawl_visits.specs.Visits.{Visit, events, warc, log, exchanges}
 use Rattle.job_commands.specs.Causes.{Causes}
 use Rattle.job_commands.specs.Opened.{Reopened, events_then, IsDamaged}

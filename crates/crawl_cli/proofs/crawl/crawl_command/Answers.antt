@@ -1,9 +1,9 @@
-use Rattle.std.proofs.Common.{◌≡◌, ◌≢◌, ◌≤◌, ◌++◌, [], ℕ, List, refl, sym, ◌∙◌, arith}
+use Rattle.std.proofs.Common.{◌++◌, [], refl, sym, ◌∙◌, arith}
 use Rattle.std.specs.String.{string_bytes}
 use Rattle.std.proofs.lemmas.List.{append-nil}
 use Rattle.crawl_traits.specs.Causes.{Rose}
 use Rattle.program_status.specs.Status.{status_text}
-use Rattle.program_status.specs.declared.status.Status.TheVariants.{Done, Usage}
+use Rattle.program_status.specs.declared.status.Status.TheVariants.{Usage}
 use Rattle.job_commands.proofs.Caused.{never_done, never_usage, rose_after, rose_before}
 use Rattle.job_commands.proofs.Said.{gains_from}
 use Rattle.crawl_cli.specs.Crawl.{crawl_causes}

@@ -1,4 +1,4 @@
-use Rattle.std.proofs.Common.{◌≡◌, ℕ, Err, None, sym, ◌∙◌, ap, subst}
+use Rattle.std.proofs.Common.{◌≡◌, Err, None, sym, ◌∙◌, ap, subst}
 use Rattle.std.specs.Prelude.{IsTrue}
 use Rattle.crawl_traits.specs.Causes.{Rose}
 use Rattle.crawl_traits.specs.Images.{Image}
@@ -8,7 +8,7 @@ use Rattle.job_commands.specs.Causes.{IsCaused, volume_causes}
 use Rattle.job_commands.specs.Opened.{IsDamaged}
 use Rattle.job_commands.proofs.Caused.{load_caused, rose_before}
 use Rattle.job_commands.proofs.Openings.{kept_then}
-use Rattle.crawl_cli.specs.Crawl.{IsReached, Recorded, crawl_causes}
+use Rattle.crawl_cli.specs.Crawl.{IsReached, Recorded}
 use Rattle.crawl_cli.proofs.Visited.{loaded_caused, visited_caused}
 use Rattle.crawl_cli.proofs.crawl.crawl_job.Goals as goal
 

@@ -1,10 +1,8 @@
-use Rattle.std.proofs.Common.{◌≡◌, ◌≤◌, ◌∷◌, ◌++◌, [], ℕ, ◌+◌, List, length, take, sym, ◌∙◌, ap, subst}
-use Rattle.std.specs.Prelude.{IsTrue}
+use Rattle.std.proofs.Common.{◌≡◌, ◌≤◌, ◌++◌, ℕ, ◌+◌, List, length, take, sym, ◌∙◌, ap, subst}
 use Rattle.crawl_kinds.specs.declared.event.Event.{Event}
 use Rattle.crawl_kinds.specs.declared.settings.Settings.{Settings}
 use Rattle.crawl_history.specs.History.{history_of, last_time, ticket_count}
 use Rattle.frontier_core.specs.Waiting.{IsWaitingList}
-use Rattle.recover_journal.specs.Holds.{journal_file, HoldsEvents}
 use Rattle.recover_journal.specs.Rest.{Rests}
 use Rattle.crawl_visits.specs.Crawl.{warc_file}
 use Rattle.crawl_visits.specs.Ends.{AreVisits, world}
@@ -43,8 +41,8 @@ returns-in-Ok-crawl-clause-done g c told told_out keeps reached =
     let items = c.as_slice.result.now in
     let same_warc : of.contents mid warc_file ≡ of.contents old warc_file = c.in-Ok.ensures.others told warc_file (λ same. absurd (cc same)) in
     let reaches : start.end ≤ length (of.contents mid warc_file) =
-        subst (λ (e : ℕ). e ≤ length (of.contents mid warc_file)) (sym (end_is ∙ opened_end c.args.job c.now.result opened.0 opened.1 opened.3))
-        (subst (λ (w : List ℕ). first_end opened.0 ≤ length w) (sym same_warc) (reached opened.0 opened.2)) in
+    subst (λ (e : ℕ). e ≤ length (of.contents mid warc_file)) (sym (end_is ∙ opened_end c.args.job c.now.result opened.0 opened.1 opened.3))
+    (subst (λ (w : List ℕ). first_end opened.0 ≤ length w) (sym same_warc) (reached opened.0 opened.2)) in
     let did = c.in-Ok-crawl.ensures.done (c.in-Ok.ensures.tells ∙ told) told_out reaches all opened.4.journal in
     record {
       crawl = record {
