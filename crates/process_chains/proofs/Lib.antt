@@ -1,0 +1,5 @@
+pub mod Drafting
+pub mod Faults
+pub mod Finishing
+pub mod Redirects
+pub mod Suiting

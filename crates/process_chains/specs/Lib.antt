@@ -1,0 +1,4 @@
+pub mod Done
+pub mod Drafts
+pub mod Endings
+pub mod Ends
