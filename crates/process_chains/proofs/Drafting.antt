@@ -1,5 +1,5 @@
 -- What each step makes of a draft.
-use Rattle.std.proofs.Common.{◌≡◌, ◌⊎◌, inl, inr, ℕ, zero, suc, ◌≤◌, ◌<◌, length, get_or, arith, Bool, true, false, List, [], ◌∷◌, ◌++◌, Option, Some, None, refl, sym, ◌∙◌, ap, subst, append-nil}
+use Rattle.std.proofs.Common.{◌≡◌, ◌⊎◌, inl, inr, ℕ, zero, suc, ◌<◌, length, get_or, arith, Bool, true, false, List, [], ◌∷◌, ◌++◌, Option, Some, None, refl, sym, ◌∙◌, ap, subst, append-nil}
 use Rattle.std.specs.Prelude.{IsTrue, IfSome, OnErr, Result, Ok, Err}
 use Rattle.std.proofs.lemmas.Bool.{cases_Bool}
 use Rattle.crawl_kinds.specs.declared.event.Fetch.{Fetch}
@@ -14,7 +14,6 @@ use Rattle.http_fetch.specs.Fetching.{IsBegun, IsSpanOf, Suits}
 use Rattle.http_message.specs.declared.front.Reply.{Reply}
 use Rattle.page_spec.specs.Outcome.{IsTo}
 use Rattle.page_spec.specs.Request.{request_text}
-use Rattle.link_extract.specs.Words.{HasAddress, HasLetter}
 use Rattle.process_chains.specs.Done.{AreLinks, IsReply}
 use Rattle.process_chains.specs.Drafts.{IsAnswer, IsSearched, Stands, asked, chain, judged, place, with_reply}
 use Rattle.process_chains.specs.Endings.{answered, faulty, headless, unfetched}
@@ -61,7 +60,7 @@ begun_end w work before after ending reply ended tells =
     let one : (e : Exchange) → ended.seen ≡ e ∷ [] → after ≡ before ++ e ∷ [] = λ e is. went ∙ ap (λ (l : List Exchange). before ++ l) is in
     elim ended.ends [
       | inl u ↦ inl (none u.told)
-      | inr fetched ↦ elim fetched.1 [
+      | inr fetched ↦ elim fetched.how [
         | inl came ↦ let t = came.told tells in inr (t.0, t.2.sent.to, one t.0 t.1)
         | inr other ↦ elim other [
           | inl fault ↦ elim (fault.told tells) [
@@ -115,7 +114,7 @@ module _ {L : Type 0} (of : Ghosts L) (gives : ℕ → Type 0) (settings : Setti
   begun_by (draft.Searched answer links) is tells =
       begun_end (world of gives settings start now) work (of.exchanges start) (of.exchanges now) answer.ending (Some answer.reply) is.0.ended tells
 
-  module _ (may : work.verdict ≡ Allowed) (span : Fetch) (timed : IsSpanOf gives span) where
+  module _ (may : work.verdict ≡ Allowed) (shut : IsTrue (of.tells start) → of.connected now ≡ false) (span : Fetch) (timed : IsSpanOf gives span) where
     abbrev w : World
     w = world of gives settings start now
 
@@ -133,11 +132,12 @@ module _ {L : Type 0} (of : Ghosts L) (gives : ℕ → Type 0) (settings : Setti
         → (IsTrue (of.tells start) → (e : Exchange) × (seen ≡ e ∷ []) × Suits work.item.uri settings e (Some reply))
         → Ends w work (answered reply.status span work.tries) (Some reply) seen
     came reply seen is told =
-        inr (may, inl (record { span = span; one = reply; came = refl; whole = is; timed = timed; ends = refl; told = λ t. let one = told t in (one.0, one.1, one.2.0) }))
+        inr (record { allowed = may; shut = shut; how = inl (record { span = span; one = reply; came = refl; whole = is; timed = timed; ends = refl; told = λ t. let one = told t in (one.0, one.1, one.2.0) }) })
 
     bare : (seen : List Exchange) → (IsTrue (of.tells start) → (e : Exchange) × (seen ≡ e ∷ []) × Suits work.item.uri settings e None)
         → Ends w work (headless span work.tries) None seen
-    bare seen told = inr (may, inr (inr (record { span = span; timed = timed; ends = refl; nothing = refl; told = told })))
+    bare seen told =
+        inr (record { allowed = may; shut = shut; how = inr (inr (record { span = span; timed = timed; ends = refl; nothing = refl; told = told })) })
 
     ended_so : (ending : Ending) (reply : Option Reply)
         → ((seen : List Exchange) → (IsTrue (of.tells start) → (e : Exchange) × (seen ≡ e ∷ []) × Suits work.item.uri settings e reply) → Ends w work ending reply seen)
@@ -168,7 +168,7 @@ module _ {L : Type 0} (of : Ghosts L) (gives : ℕ → Type 0) (settings : Setti
     lost : (fault : LinkFault) (seen : List Exchange) → w.rose fault → (IsTrue (of.tells start) → (seen ≡ []) ⊎ ((e : Exchange) × (seen ≡ e ∷ []) × IsTo work.item.uri settings e))
         → Ends w work (faulty fault span work.tries settings.max_tries) None seen
     lost fault seen rises told =
-        inr (may, inr (inl (record { span = span; fault = fault; rises = rises; timed = timed; ends = refl; nothing = refl; told = told })))
+        inr (record { allowed = may; shut = shut; how = inr (inl (record { span = span; fault = fault; rises = rises; timed = timed; ends = refl; nothing = refl; told = told })) })
 
     lost_stands : (fault : LinkFault) → w.rose fault → (IsTrue (of.tells start) → IsBegun work.item.uri settings before after)
         → Stands of gives settings work start now (draft.Ended (faulty fault span work.tries settings.max_tries))

@@ -1,5 +1,5 @@
 -- An ending names a fault only where that fault ended the fetch.
-use Rattle.std.proofs.Common.{◌≡◌, ◌⊎◌, inl, inr, ℕ, ℤ, pos, Bool, true, false, List, Option, Some, None, refl, sym, ◌∙◌, ap, subst, nat_lt}
+use Rattle.std.proofs.Common.{◌≡◌, inl, inr, ℕ, ℤ, pos, Bool, true, false, List, Option, Some, None, refl, sym, ◌∙◌, ap, subst, nat_lt}
 use Rattle.std.specs.Prelude.{if◌then◌else◌}
 use Rattle.std.proofs.lemmas.Bool.{cases_Bool}
 use Rattle.std.specs.Ordering.{int_eq}
@@ -88,7 +88,7 @@ module _ (w : World) (work : Work) (one : Ending) (fault : LinkFault) (named : I
   rises_by : (reply : Option Reply) (seen : List Exchange) → Ends w work one reply seen → w.rose fault
   rises_by reply seen ends = elim ends [
     | inl u ↦ absurd (unfetched_none work.verdict work.tries one fault u.ends named)
-    | inr fetched ↦ elim fetched.1 [
+    | inr fetched ↦ elim fetched.how [
       | inl came ↦ absurd (names_none (answered came.one.status came.span work.tries) fault refl refl (subst (λ (o : Ending). IsOfFault fault o) came.ends named))
       | inr other ↦ elim other [
         | inl by ↦ subst (λ (f : LinkFault). w.rose f)

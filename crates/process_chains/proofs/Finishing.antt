@@ -1,5 +1,5 @@
 -- What comes of work at the end of the chain.
-use Rattle.std.proofs.Common.{◌≡◌, ◌⊎◌, inl, inr, ℕ, ℤ, ◌≤◌, ◌<◌, true, List, length, [], ◌∷◌, Option, Some, None, refl, sym, ◌∙◌, ap, subst, arith, pos}
+use Rattle.std.proofs.Common.{◌≡◌, inl, inr, ℕ, ◌≤◌, ◌<◌, List, length, Option, Some, None, refl, sym, ◌∙◌, ap, subst, arith, pos}
 use Rattle.std.specs.Prelude.{IsTrue}
 use Rattle.crawl_kinds.specs.declared.event.Body.{Body}
 use Rattle.crawl_kinds.specs.declared.event.Verdict.{Verdict}
@@ -10,13 +10,11 @@ use Rattle.crawl_traits.specs.declared.link.Exchange.{Exchange}
 use Rattle.crawl_traits.specs.declared.link.Link.{Ghosts}
 use Rattle.crawl_history.specs.Ends.{Suits}
 use Rattle.crawl_history.specs.Facts.{Facts, Archive}
-use Rattle.extract_spec.specs.declared.found.Found.{Found}
 use Rattle.http_message.specs.declared.front.Reply.{Reply}
 use Rattle.process_chains.specs.Done.{Done, IsBodyOf, IsDone, IsReply}
-use Rattle.process_chains.specs.Drafts.{IsReady, Stands, Becomes, ended_done, reached, searched_done}
+use Rattle.process_chains.specs.Drafts.{IsReady, Stands, Becomes, ended_done, reached}
 use Rattle.process_chains.specs.Endings.{end_with, faulty}
 use Rattle.process_chains.specs.Ends.{World, world, Ends, Ended}
-use Rattle.process_chains.specs.declared.draft.Answer.{Answer}
 use Rattle.process_chains.specs.declared.draft.Draft.{Draft}
 use Rattle.process_chains.specs.declared.draft.Draft.TheVariants as draft
 use Rattle.process_chains.specs.declared.ending.Ending.{Ending}
@@ -27,7 +25,7 @@ module _ (w : World) (work : Work) (f : Facts) (a : Archive) (same : f.settings 
   suits_none : (ending : Ending) (seen : List Exchange) → Ends w work ending None seen → Suits f a work.tries work.item (end_with ending None) work.verdict
   suits_none ending seen ends = elim ends [
     | inl u ↦ unfetched_suits f a work.tries work.item work.verdict ending u.ends
-    | inr fetched ↦ subst (λ (v : Verdict). Suits f a work.tries work.item (end_with ending None) v) (sym fetched.0) (elim fetched.1 [
+    | inr fetched ↦ subst (λ (v : Verdict). Suits f a work.tries work.item (end_with ending None) v) (sym fetched.allowed) (elim fetched.how [
       | inl came ↦ absurd (cc (came.came))
       | inr other ↦ elim other [
         | inl fault ↦ subst (λ (e : Ending). Suits f a work.tries work.item (end_with e None) Allowed) (sym fault.ends)
@@ -45,7 +43,7 @@ module _ (w : World) (work : Work) (f : Facts) (a : Archive) (same : f.settings 
       → Suits f a work.tries work.item (end_with ending (Some body)) work.verdict
   suits_some ending reply seen body ends at fits = elim ends [
     | inl u ↦ absurd (cc (u.nothing))
-    | inr fetched ↦ subst (λ (v : Verdict). Suits f a work.tries work.item (end_with ending (Some body)) v) (sym fetched.0) (elim fetched.1 [
+    | inr fetched ↦ subst (λ (v : Verdict). Suits f a work.tries work.item (end_with ending (Some body)) v) (sym fetched.allowed) (elim fetched.how [
       | inl came ↦
           let one : reply ≡ came.one = cc (came.came) in
           let long : 0 < length reply.block = subst (λ (r : Reply). 0 < length r.block) (sym one) (whole_is_long w.settings.max_response_bytes came.one came.whole) in
@@ -69,7 +67,7 @@ answer_is : (w : World) (work : Work) (ending : Ending) (reply : Reply) (seen : 
     → IsReply w.settings.max_response_bytes reply × (ending.code ≡ pos reply.status)
 answer_is w work ending reply seen ends = elim ends [
   | inl u ↦ absurd (cc (u.nothing))
-  | inr fetched ↦ elim fetched.1 [
+  | inr fetched ↦ elim fetched.how [
     | inl came ↦
         let one : reply ≡ came.one = cc (came.came) in (
           subst (λ (r : Reply). IsReply w.settings.max_response_bytes r) (sym one) came.whole,

@@ -1,6 +1,6 @@
 -- An ending suits its work, whatever the facts of the job are.
-use Rattle.std.proofs.Common.{◌≡◌, inl, inr, ℕ, ◌+◌, ◌<◌, ◌≤◌, Bool, true, false, ◌&&◌, ◌||◌, not, nat_lt, nat_le, List, length, Option, Some, None, [], ◌∷◌, ◌++◌, drop, refl, sym, ◌∙◌, ap, subst, arith, length-append, pos, lt-ltb, le-leb, ltb-false}
-use Rattle.std.specs.Prelude.{IsTrue, is_some, if◌then◌else◌}
+use Rattle.std.proofs.Common.{◌≡◌, inl, inr, ℕ, ◌<◌, Bool, true, false, ◌&&◌, ◌||◌, nat_lt, nat_le, List, length, Some, None, ◌∷◌, ◌++◌, drop, refl, sym, ap, subst, arith, length-append, lt-ltb, le-leb, ltb-false}
+use Rattle.std.specs.Prelude.{if◌then◌else◌}
 use Rattle.std.proofs.lemmas.Bool.{cases_Bool}
 use Rattle.crawl_kinds.specs.declared.event.Body.{Body}
 use Rattle.crawl_kinds.specs.declared.event.Fetch.{Fetch}
@@ -8,9 +8,6 @@ use Rattle.crawl_kinds.specs.declared.event.Outcome.TheVariants.{Failure, Retry}
 use Rattle.crawl_kinds.specs.declared.event.Verdict.{Verdict}
 use Rattle.crawl_kinds.specs.declared.event.Verdict.TheVariants.{Allowed, Precluded, Needed, Unsupported, Unreachable}
 use Rattle.crawl_kinds.specs.declared.item.Item.{Item}
-use Rattle.crawl_kinds.specs.declared.item.Work.{Work}
-use Rattle.crawl_kinds.specs.declared.settings.Settings.{Settings}
-use Rattle.crawl_traits.specs.declared.link.Exchange.{Exchange}
 use Rattle.crawl_traits.specs.declared.link.LinkFault.{LinkFault}
 use Rattle.crawl_traits.specs.declared.link.LinkFault.TheVariants.{Refused, Lost, TimedOut}
 use Rattle.crawl_history.specs.Codes.{no_cause, too_many_tries}
@@ -18,9 +15,8 @@ use Rattle.crawl_history.specs.Ends.{Suits}
 use Rattle.crawl_history.specs.Facts.{Facts, Archive}
 use Rattle.httparse.specs.Grammar.{ResponseHead, print_blank, print_response, print_version}
 use Rattle.http_message.specs.declared.front.Reply.{Reply}
-use Rattle.process_chains.specs.Done.{IsBodyOf, IsReply}
+use Rattle.process_chains.specs.Done.{IsReply}
 use Rattle.process_chains.specs.Endings.{answered, code_of, end_with, ending, faulty, headless, unfetched}
-use Rattle.process_chains.specs.Ends.{World, Ends}
 use Rattle.process_chains.specs.declared.ending.Ending.{Ending}
 
 behind_is_long : (a b : List ℕ) (x : ℕ) → 0 < length (a ++ (x ∷ b))

@@ -2,7 +2,7 @@
 --     AreLinks item reply links      the links to which its response leads
 --     IsBodyOf f a d body      the body is that of the response, where one came
 --     IsDone d      the end suits the work, and the links are those of the response
-use Rattle.std.specs.Prelude.{◌≡◌, ℕ, pos, Bool, ◌==◌, List, [], ◌∷◌, All, drop, find, Option, Some, None, IfSome, IsTrue, if◌then◌else◌}
+use Rattle.std.specs.Prelude.{◌≡◌, ℕ, pos, ◌==◌, List, [], ◌∷◌, All, drop, find, Option, Some, None, IfSome, IsTrue, if◌then◌else◌}
 use Rattle.httparse.specs.Grammar.{ResponseHead, status_code}
 use Rattle.crawl_kinds.specs.declared.event.Body.{Body}
 use Rattle.crawl_kinds.specs.declared.item.Item.{Item}

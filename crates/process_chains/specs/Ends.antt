@@ -2,7 +2,7 @@
 --     Ends w work ending reply seen      the work ended so, with this reply or none
 --     Ended w work before after ending reply      and that is what the link has more than before
 --     IsOfFault fault ending      the ending names this fault of the link
-use Rattle.std.specs.Prelude.{◌≡◌, ◌⊎◌, ℕ, Bool, IsTrue, List, [], ◌∷◌, ◌++◌, Option, Some, None}
+use Rattle.std.specs.Prelude.{◌≡◌, ◌⊎◌, ℕ, Bool, false, IsTrue, List, [], ◌∷◌, ◌++◌, Option, Some, None}
 use Rattle.crawl_kinds.specs.declared.event.Fetch.{Fetch}
 use Rattle.crawl_kinds.specs.declared.event.Verdict.TheVariants.{Allowed}
 use Rattle.crawl_kinds.specs.declared.item.Work.{Work}
@@ -20,17 +20,24 @@ use Rattle.process_chains.specs.Endings.{answered, code_of, faulty, headless, un
 use Rattle.process_chains.specs.declared.ending.Ending.{Ending}
 
 -- what work is processed under: the moments that the clock gives, the faults whose counts rose, whether the link tells
--- what went over it, and the settings
+-- what went over it, whether it has a connection then, and the settings
 pub record World : Type 1 where
   pub gives : ℕ → Type 0
   pub rose : LinkFault → Type 0
   pub tells : Bool
+  pub connected : Bool
   pub settings : Settings
 
 -- that of a link from one state to another
 abbrev pub world : {L : Type 0} → Ghosts L → (ℕ → Type 0) → Settings → L → L → World
 world of gives settings start now =
-    record { gives = gives; rose = λ fault. Rose (of.faults start fault) (of.faults now fault); tells = of.tells start; settings = settings }
+    record {
+      gives = gives;
+      rose = λ fault. Rose (of.faults start fault) (of.faults now fault);
+      tells = of.tells start;
+      connected = of.connected now;
+      settings = settings;
+    }
 
 -- the verdict allows no fetch, and no connection was made
 pub record IsUnfetched (work : Work) (ending : Ending) (reply : Option Reply) (seen : List Exchange) : Type 0 where
@@ -68,12 +75,15 @@ pub record IsHeadless (w : World) (work : Work) (ending : Ending) (reply : Optio
   pub nothing : reply ≡ None
   pub told : IsTrue w.tells → (e : Exchange) × (seen ≡ e ∷ []) × Unanswered work.item.uri w.settings e
 
--- what is allowed is fetched, and ends in one of three ways; all else ends without a fetch
+-- the verdict allows a fetch, which ended in one of three ways, and no connection is left
+pub record IsFetched (w : World) (work : Work) (ending : Ending) (reply : Option Reply) (seen : List Exchange) : Type 0 where
+  pub allowed : work.verdict ≡ Allowed
+  pub shut : IsTrue w.tells → w.connected ≡ false
+  pub how : IsAnswered w work ending reply seen ⊎ (IsFaulty w work ending reply seen ⊎ IsHeadless w work ending reply seen)
+
+-- what is allowed is fetched, and all else ends without a fetch
 abbrev pub Ends : World → Work → Ending → Option Reply → List Exchange → Type 0
-Ends w work ending reply seen =
-    IsUnfetched work ending reply seen
-    ⊎ ((work.verdict ≡ Allowed)
-    × (IsAnswered w work ending reply seen ⊎ (IsFaulty w work ending reply seen ⊎ IsHeadless w work ending reply seen)))
+Ends w work ending reply seen = IsUnfetched work ending reply seen ⊎ IsFetched w work ending reply seen
 
 -- the work ended so, by what went over the link from before to after
 pub record Ended (w : World) (work : Work) (before after : List Exchange) (ending : Ending) (reply : Option Reply) : Type 0 where
