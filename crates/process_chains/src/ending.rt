@@ -1,5 +1,5 @@
 // How an item that was handed out ends.
-ghost use Rattle.std.specs.Prelude.{◌≡◌, Some, pos};
+ghost use Rattle.std.specs.Prelude.{◌≡◌};
 ghost use Rattle.process_chains.specs.Endings as endings;
 
 use crawl_kinds::{Body, End, Fetch, Notes, Outcome, Verdict};

@@ -44,7 +44,7 @@ fn settings(alloc: Global, proxy: bool) -> Result<Settings, Fail> {
         min_delay_ms: 0,
         max_delay_ms: 0,
         max_crawl_delay_s: 0,
-        max_tries: 2,
+        max_tries: 3,
         retry_delay_s: 0,
         timeout_ms: 20_000,
         host_budget: 0,
@@ -162,11 +162,12 @@ fn a_fault_of_the_link_is_tried_again_and_then_a_failure(rt: HostRuntime) -> Res
     let alloc = rt.alloc();
     let rows = [
         (1, 1, LinkFault::Refused, "Retry -2 0 1 true 0 0 0 0 "),
-        (2, 1, LinkFault::Refused, "Failure -8 -2 2 true 0 0 0 0 "),
-        (1, 2, LinkFault::Lost, "Retry -3 0 1 true 0 0 0 1 "),
-        (2, 3, LinkFault::Lost, "Failure -8 -3 2 true 0 0 0 1 "),
-        (1, 3, LinkFault::TimedOut, "Retry -4 0 1 true 0 0 0 1 "),
-        (2, 2, LinkFault::TimedOut, "Failure -8 -4 2 true 0 0 0 1 "),
+        (2, 1, LinkFault::Refused, "Retry -2 0 2 true 0 0 0 0 "),
+        (3, 1, LinkFault::Refused, "Failure -8 -2 3 true 0 0 0 0 "),
+        (2, 2, LinkFault::Lost, "Retry -3 0 2 true 0 0 0 1 "),
+        (3, 3, LinkFault::Lost, "Failure -8 -3 3 true 0 0 0 1 "),
+        (2, 3, LinkFault::TimedOut, "Retry -4 0 2 true 0 0 0 1 "),
+        (3, 2, LinkFault::TimedOut, "Failure -8 -4 3 true 0 0 0 1 "),
     ];
     for (tries, call, fault, wanted) in rows {
         let one = case(Verdict::Allowed, tries, Some((call, fault)));
