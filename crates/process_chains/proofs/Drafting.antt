@@ -41,7 +41,7 @@ pub place_at : (items : List Step) (i : ℕ) → items ≡ chain → i < length 
 place_at items i is within =
     subst (λ (l : List Step). place (get_or l i AskVerdict) ≡ i) (sym is) (place_in i (omega (arith, within, ap (λ (l : List Step). length l) is)))
 
-clash : (b : Bool) → b ≡ true → b ≡ false → ⊥
+pub clash : (b : Bool) → b ≡ true → b ≡ false → ⊥
 clash b is other = let wrong : true ≡ false = sym is ∙ other in cc
 
 allowed_by : (verdict : Verdict) (tries : ℕ) → unfetched verdict tries ≡ None → verdict ≡ Allowed

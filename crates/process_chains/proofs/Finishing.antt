@@ -1,6 +1,7 @@
 -- What comes of work at the end of the chain.
 use Rattle.std.proofs.Common.{◌≡◌, inl, inr, ℕ, ◌≤◌, ◌<◌, List, length, Option, Some, None, refl, sym, ◌∙◌, ap, subst, arith, pos}
 use Rattle.std.specs.Prelude.{IsTrue}
+use Rattle.std.proofs.lemmas.List.Elements.{All-nil}
 use Rattle.crawl_kinds.specs.declared.event.Body.{Body}
 use Rattle.crawl_kinds.specs.declared.event.Verdict.{Verdict}
 use Rattle.crawl_kinds.specs.declared.event.Verdict.TheVariants.{Allowed}
@@ -10,6 +11,7 @@ use Rattle.crawl_traits.specs.declared.link.Exchange.{Exchange}
 use Rattle.crawl_traits.specs.declared.link.Link.{Ghosts}
 use Rattle.crawl_history.specs.Ends.{Suits}
 use Rattle.crawl_history.specs.Facts.{Facts, Archive}
+use Rattle.extract_spec.specs.Joining.{IsLink}
 use Rattle.http_message.specs.declared.front.Reply.{Reply}
 use Rattle.process_chains.specs.Done.{Done, IsBodyOf, IsDone, IsReply}
 use Rattle.process_chains.specs.Drafts.{IsReady, Stands, Becomes, ended_done, reached}
@@ -92,6 +94,7 @@ module _ {L : Type 0} (of : Ghosts L) (gives : ℕ → Type 0) (settings : Setti
     status = tt;
     request = refl;
     links = refl;
+    each = All-nil IsLink;
   }
 
   -- what a draft at the end of the chain says is what is known
@@ -108,6 +111,7 @@ module _ {L : Type 0} (of : Ghosts L) (gives : ℕ → Type 0) (settings : Setti
         status = known.1;
         request = is.0.request;
         links = is.1;
+        each = is.1.each;
       }
 
   -- and is so of what comes of it

@@ -2,7 +2,7 @@
 --     AreLinks item reply links      the links to which its response leads
 --     IsBodyOf f a d body      the body is that of the response, where one came
 --     IsDone d      the end suits the work, and the links are those of the response
-use Rattle.std.specs.Prelude.{◌≡◌, ℕ, pos, ◌==◌, List, [], ◌∷◌, All, drop, find, Option, Some, None, IfSome, IsTrue, if◌then◌else◌}
+use Rattle.std.specs.Prelude.{◌≡◌, ℕ, pos, Bool, true, ◌==◌, List, [], ◌∷◌, All, drop, find, Option, Some, None, IfSome, IsTrue, if◌then◌else◌}
 use Rattle.httparse.specs.Grammar.{ResponseHead, status_code}
 use Rattle.crawl_kinds.specs.declared.event.Body.{Body}
 use Rattle.crawl_kinds.specs.declared.item.Item.{Item}
@@ -11,10 +11,10 @@ use Rattle.crawl_kinds.specs.declared.settings.Settings.{Settings}
 use Rattle.crawl_history.specs.Ends.{Suits}
 use Rattle.crawl_history.specs.Facts.{Facts, Archive}
 use Rattle.crawl_history.specs.Outcomes.{is_prerequisite}
+use Rattle.extract_spec.specs.Joining.{IsLink}
 use Rattle.extract_spec.specs.Links.{is_redirection, links_of, redirect}
 use Rattle.extract_spec.specs.declared.found.Found.{Found}
 use Rattle.http_message.specs.declared.front.Reply.{Reply}
-use Rattle.link_extract.specs.Words.{HasAddress, HasLetter}
 use Rattle.page_spec.specs.Request.{request_text}
 use Rattle.page_spec.specs.Response.{fields_of, IsHead, IsReplyOf}
 use Rattle.process_chains.specs.Endings.{end_with}
@@ -30,16 +30,20 @@ pub record Done : Type 0 where
   pub reply : Option Reply
   pub links : List Found
 
--- the first link with the letter of a redirect
-abbrev pub first_redirect : Option Found → List Found
-first_redirect None = []
-first_redirect (Some found) = found ∷ []
+-- whether a link has the letter of a redirect
+abbrev pub is_redirect : Found → Bool
+is_redirect found = found.letter == redirect
 
--- a page leads to all its links, a robots file to its redirect alone (RFC 9309 section 2.3.1.2)
+-- the link that was found, alone
+abbrev pub alone : Option Found → List Found
+alone None = []
+alone (Some found) = found ∷ []
+
+-- a page leads to all its links, a robots file to its first redirect alone (RFC 9309 section 2.3.1.2)
 abbrev pub item_links : Item → ℕ → List Found → List Found
 item_links item status links =
     if is_prerequisite item
-    then (if is_redirection status then first_redirect (find (λ l. l.letter == redirect) links) else [])
+    then (if is_redirection status then alone (find is_redirect links) else [])
     else links
 
 -- those of the links that are defined for address and block
@@ -47,8 +51,11 @@ pub record AreLinks (item : Item) (reply : Reply) (links : List Found) : Type 0 
   pub same :
       (h : ResponseHead) (payload : List ℕ) → IsHead reply.block h payload
       → links ≡ item_links item reply.status (links_of item.uri (status_code h) (fields_of h) payload)
-  pub addresses : All HasAddress links
-  pub letters : All HasLetter links
+  -- so a redirection leads where the first of all redirects does
+  pub redirect :
+      (h : ResponseHead) (payload : List ℕ) → IsHead reply.block h payload → is_redirection reply.status ≡ true
+      → find is_redirect links ≡ find is_redirect (links_of item.uri (status_code h) (fields_of h) payload)
+  pub each : All IsLink links
 
 -- without a response there are none
 abbrev pub AreLinksOf : Item → Option Reply → List Found → Type 0
@@ -81,6 +88,7 @@ pub record IsDone (d : Done) : Type 0 where
   pub status : IfSome d.reply (λ reply. d.ending.code ≡ pos reply.status)
   pub request : d.request ≡ asked_for d.settings d.work.item.uri d.reply
   pub links : AreLinksOf d.work.item d.reply d.links
+  pub each : All IsLink d.links
 
 -- the block and the payload of the response, empty where none came
 abbrev pub block_of : Option Reply → List ℕ

@@ -13,7 +13,7 @@ ghost use Rattle.process_chains.specs.Ends.{Ended, IsOfFault, world};
 use crate::draft::Draft;
 use crate::ending::unfetched;
 use crate::fetching::fetched;
-use crate::links::links_of;
+use crate::links::item_links;
 use crate::processed::{Processed, processed_of};
 use crate::steps::{Step, fetch_chain};
 use crawl_kinds::{Copied, Listed, NoMemory, Settings, Work};
@@ -70,7 +70,7 @@ fn find_links(alloc: Global, work: &Work, draft: Draft) -> Result<Draft, NoMemor
 {
     match draft {
         Draft::Answered(answer) => {
-            let links = links_of(alloc, &work.item, &answer.reply)?;
+            let links = item_links(alloc, &work.item, &answer.reply)?;
             Ok(Draft::Searched(answer, links))
         }
         other => Ok(other),

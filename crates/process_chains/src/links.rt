@@ -1,10 +1,10 @@
 // The links of a response.
-ghost use Rattle.std.specs.Prelude.{◌≡◌, ◌==◌, find, true, IfOk};
+ghost use Rattle.std.specs.Prelude.{◌≡◌, find, true, IfOk};
 ghost use Rattle.std.specs.Option.{option_copied};
 ghost use Rattle.crawl_kinds.specs.Address.{IsUri};
 ghost use Rattle.crawl_history.specs.Outcomes as outcomes;
-ghost use Rattle.extract_spec.specs.Links.{is_redirection, redirect};
-ghost use Rattle.process_chains.specs.Done.{AreLinks, first_redirect};
+ghost use Rattle.extract_spec.specs.Links.{is_redirection};
+ghost use Rattle.process_chains.specs.Done.{AreLinks, alone, is_redirect};
 
 use crawl_kinds::{Copied, Item, NoMemory};
 use http_message::Reply;
@@ -27,7 +27,7 @@ fn is_redirection(status: u16) -> bool
 
 /// The first link with the letter of a redirect.
 fn redirect_in(links: &[Found]) -> Option<&Found>
-    ensures { option_copied result ≡ find (λ l. l.letter == redirect) links.now }
+    ensures { option_copied result ≡ find is_redirect links.now }
 {
     links.iter().find(|found| found.letter == b'R')
 }
@@ -44,7 +44,7 @@ fn copy_of(found: &Found) -> Result<Found, NoMemory>
 
 /// The first redirect of links, alone.
 fn redirect_of(alloc: Global, links: &Links) -> Result<Links, NoMemory>
-    ensures is { IfOk result (λ own. own ≡ first_redirect (find (λ l. l.letter == redirect) links.now)) }
+    ensures { IfOk result (λ own. own ≡ alone (find is_redirect links.now)) }
 {
     let mut redirect = Links::new(alloc);
     if let Some(found) = redirect_in(links.as_slice()) {
@@ -68,12 +68,13 @@ fn robots_links(alloc: Global, item: &Item, reply: &Reply) -> Result<Links, NoMe
 }
 
 /// The links to which the response of an item leads: of a page all, and of a robots file the first redirect alone.
-pub(crate) fn links_of(alloc: Global, item: &Item, reply: &Reply) -> Result<Links, NoMemory>
+pub(crate) fn item_links(alloc: Global, item: &Item, reply: &Reply) -> Result<Links, NoMemory>
     requires { IsUri item.now.uri }
     ensures { IfOk result (AreLinks item.now reply.now) }
 {
     if is_prerequisite(item) {
         return robots_links(alloc, item, reply);
     }
-    extract(alloc, &item.uri, reply.block.as_slice())
+    let links = extract(alloc, &item.uri, reply.block.as_slice())?;
+    Ok(links)
 }

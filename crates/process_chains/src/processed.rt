@@ -37,7 +37,7 @@ impl Model for Processed {
     ghost invariant = { λ a. IsDone (record { work = a.work; settings = a.settings.value; ending = a.ending; request = a.request; reply = a.reply; links = a.links }) };
 }
 
-/// What holds of an item that was processed is enough for its end to be recorded.
+/// An item that was processed, of what came of it.
 pub(crate) fn processed_of(
     work: Work,
     settings: Said<Settings>,
