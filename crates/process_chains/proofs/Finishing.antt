@@ -1,6 +1,6 @@
 -- What comes of work at the end of the chain.
-use Rattle.std.proofs.Common.{◌≡◌, inl, inr, ℕ, ◌≤◌, ◌<◌, List, length, Option, Some, None, refl, sym, ◌∙◌, ap, subst, arith, pos}
-use Rattle.std.specs.Prelude.{IsTrue}
+use Rattle.std.proofs.Common.{◌≡◌, inl, inr, ℕ, ◌≤◌, ◌<◌, ◌^◌, true, false, List, length, Option, Some, None, refl, sym, ◌∙◌, ap, subst, arith, pos}
+use Rattle.std.specs.Prelude.{IsTrue, IfSome, is_some}
 use Rattle.std.proofs.lemmas.List.Elements.{All-nil}
 use Rattle.crawl_kinds.specs.declared.event.Body.{Body}
 use Rattle.crawl_kinds.specs.declared.event.Verdict.{Verdict}
@@ -13,6 +13,7 @@ use Rattle.crawl_history.specs.Ends.{Suits}
 use Rattle.crawl_history.specs.Facts.{Facts, Archive}
 use Rattle.extract_spec.specs.Joining.{IsLink}
 use Rattle.http_message.specs.declared.front.Reply.{Reply}
+use Rattle.journal_valid.specs.Ends.{IsBody, IsEnd}
 use Rattle.process_chains.specs.Done.{Done, IsBodyOf, IsDone, IsReply}
 use Rattle.process_chains.specs.Drafts.{IsReady, Stands, Becomes, ended_done, reached}
 use Rattle.process_chains.specs.Endings.{end_with, faulty}
@@ -20,6 +21,7 @@ use Rattle.process_chains.specs.Ends.{World, world, Ends, Ended}
 use Rattle.process_chains.specs.declared.draft.Draft.{Draft}
 use Rattle.process_chains.specs.declared.draft.Draft.TheVariants as draft
 use Rattle.process_chains.specs.declared.ending.Ending.{Ending}
+use Rattle.process_chains.proofs.Valid.{valid_none, valid_some}
 use Rattle.process_chains.proofs.Suiting.{answered_suits, faulty_suits, headless_suits, unfetched_suits, whole_is_long}
 
 module _ (w : World) (work : Work) (f : Facts) (a : Archive) (same : f.settings ≡ w.settings) where
@@ -64,6 +66,15 @@ module _ (w : World) (work : Work) (f : Facts) (a : Archive) (same : f.settings 
   suits_body ending reply seen None ends is = absurd is
   suits_body ending reply seen (Some body) ends is = suits_some ending reply seen body ends is.0 is.1
 
+is_none_by : (body : Option Body) → is_some body ≡ false → body ≡ None
+is_none_by None e = refl
+is_none_by (Some body) e = absurd (cc (e))
+
+body_valid : (w : World) (work : Work) (one : Ending) (reply : Reply) (seen : List Exchange) → 1 ≤ work.tries → work.tries < 2 ^ 32 → (body : Option Body)
+    → Ends w work one (Some reply) seen → is_some body ≡ true → IfSome body IsBody → IsEnd (end_with one body)
+body_valid w work one reply seen first small None ends some fits = absurd (cc (some))
+body_valid w work one reply seen first small (Some body) ends some fits = valid_some w work one first small reply seen body ends fits
+
 -- the reply of an answer is whole, and its status is the code
 answer_is : (w : World) (work : Work) (ending : Ending) (reply : Reply) (seen : List Exchange) → Ends w work ending (Some reply) seen
     → IsReply w.settings.max_response_bytes reply × (ending.code ≡ pos reply.status)
@@ -86,10 +97,13 @@ module _ {L : Type 0} (of : Ghosts L) (gives : ℕ → Type 0) (settings : Setti
   abbrev w : World
   w = world of gives settings start now
 
-  ended_ready : (ending : Ending) → Ended w work (of.exchanges start) (of.exchanges now) ending None → IsDone (ended_done work settings ending)
-  ended_ready ending is = record {
+  ended_ready : (ending : Ending) → work.tries < 2 ^ 32 → Ended w work (of.exchanges start) (of.exchanges now) ending None → IsDone (ended_done work settings ending)
+  ended_ready ending small is = record {
     suits = λ f a body same none. subst (λ (b : Option Body). Suits f a work.tries work.item (end_with ending b) work.verdict) (sym none)
         (suits_none w work f a same ending is.seen is.ends);
+    small = small;
+    valid = λ first body none fits. subst (λ (b : Option Body). IsEnd (end_with ending b)) (sym (is_none_by body none))
+        (valid_none w work ending first small is.seen is.ends);
     reply = tt;
     status = tt;
     request = refl;
@@ -98,15 +112,17 @@ module _ {L : Type 0} (of : Ghosts L) (gives : ℕ → Type 0) (settings : Setti
   }
 
   -- what a draft at the end of the chain says is what is known
-  pub ready_by : (one : Draft) → Stands of gives settings work start now one → 3 ≤ reached one → IsReady work settings one
-  ready_by draft.New is past = absurd (omega (arith, past))
-  ready_by draft.MayFetch is past = absurd (omega (arith, past))
-  ready_by (draft.Answered answer) is past = absurd (omega (arith, past))
-  ready_by (draft.Ended ending) is past = ended_ready ending is
-  ready_by (draft.Searched answer links) is past =
+  pub ready_by : (one : Draft) → work.tries < 2 ^ 32 → Stands of gives settings work start now one → 3 ≤ reached one → IsReady work settings one
+  ready_by draft.New small is past = absurd (omega (arith, past))
+  ready_by draft.MayFetch small is past = absurd (omega (arith, past))
+  ready_by (draft.Answered answer) small is past = absurd (omega (arith, past))
+  ready_by (draft.Ended ending) small is past = ended_ready ending small is
+  ready_by (draft.Searched answer links) small is past =
       let known = answer_is w work answer.ending answer.reply is.0.ended.seen is.0.ended.ends in
       record {
         suits = λ f a body same fits. suits_body w work f a same answer.ending answer.reply is.0.ended.seen body is.0.ended.ends fits;
+        small = small;
+        valid = λ first body some fits. body_valid w work answer.ending answer.reply is.0.ended.seen first small body is.0.ended.ends some fits;
         reply = known.0;
         status = known.1;
         request = is.0.request;

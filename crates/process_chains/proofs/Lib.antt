@@ -3,3 +3,4 @@ pub mod Faults
 pub mod Finishing
 pub mod Redirects
 pub mod Suiting
+pub mod Valid

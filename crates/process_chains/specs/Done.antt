@@ -2,7 +2,7 @@
 --     AreLinks item reply links      the links to which its response leads
 --     IsBodyOf f a d body      the body is that of the response, where one came
 --     IsDone d      the end suits the work, and the links are those of the response
-use Rattle.std.specs.Prelude.{◌≡◌, ℕ, pos, Bool, true, ◌==◌, List, [], ◌∷◌, All, drop, find, Option, Some, None, IfSome, IsTrue, if◌then◌else◌}
+use Rattle.std.specs.Prelude.{◌≡◌, ◌≤◌, ◌<◌, ◌^◌, ℕ, pos, Bool, true, ◌==◌, List, [], ◌∷◌, All, drop, find, Option, Some, None, is_some, IfSome, IsTrue, if◌then◌else◌}
 use Rattle.httparse.specs.Grammar.{ResponseHead, status_code}
 use Rattle.crawl_kinds.specs.declared.event.Body.{Body}
 use Rattle.crawl_kinds.specs.declared.item.Item.{Item}
@@ -15,6 +15,7 @@ use Rattle.extract_spec.specs.Joining.{IsLink}
 use Rattle.extract_spec.specs.Links.{is_redirection, links_of, redirect}
 use Rattle.extract_spec.specs.declared.found.Found.{Found}
 use Rattle.http_message.specs.declared.front.Reply.{Reply}
+use Rattle.journal_valid.specs.Ends.{IsBody, IsEnd}
 use Rattle.page_spec.specs.Request.{request_text}
 use Rattle.page_spec.specs.Response.{fields_of, IsHead, IsReplyOf}
 use Rattle.process_chains.specs.Endings.{end_with}
@@ -83,6 +84,9 @@ pub record IsDone (d : Done) : Type 0 where
   pub suits :
       (f : Facts) (a : Archive) (body : Option Body) → f.settings ≡ d.settings → IsBodyOf f a d.work.item.uri d.ending d.reply body
       → Suits f a d.work.tries d.work.item (end_with d.ending body) d.work.verdict
+  -- and from the first try on a line of the journal can name it with any body that one can name
+  pub small : d.work.tries < 2 ^ 32
+  pub valid : 1 ≤ d.work.tries → (body : Option Body) → is_some body ≡ is_some d.reply → IfSome body IsBody → IsEnd (end_with d.ending body)
   pub reply : IfSome d.reply (IsReply d.settings.max_response_bytes)
   -- the code is then its status
   pub status : IfSome d.reply (λ reply. d.ending.code ≡ pos reply.status)

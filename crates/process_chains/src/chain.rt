@@ -1,5 +1,5 @@
 // The fetch chain, run.
-ghost use Rattle.std.specs.Prelude.{◌≡◌, ◌≤◌, ◌<◌, IsTrue, IfOk, OnErr};
+ghost use Rattle.std.specs.Prelude.{◌≡◌, ◌≤◌, ◌<◌, ◌^◌, IsTrue, IfOk, OnErr};
 ghost use Rattle.crawl_kinds.specs.Address.{IsUri};
 ghost use Rattle.crawl_kinds.specs.declared.event.Verdict.TheVariants.{Allowed};
 ghost use Rattle.crawl_traits.specs.declared.link.LinkFault.{LinkFault as Fault};
@@ -139,6 +139,14 @@ fn finished(
     }
 }
 
+/// Which try it is: a number of 32 bits.
+fn try_of(work: &Work) -> u32
+    ensures is { result ≡ work.now.tries }
+    ensures small { result < 2 ^ 32 }
+{
+    work.tries
+}
+
 /// Processes an item that was handed out: takes each step of the fetch chain, in order. Its verdict is obeyed: what may not
 /// be fetched ends without touching the link, and what may be is fetched once, over one connection at most.
 ///
@@ -167,6 +175,7 @@ pub fn process<L: Link, C: Clock>(
     for step in fetch_chain() {
         draft = take_step(alloc, *step, work, settings, draft, link, clock)?;
     }
+    let _ = try_of(work);
     let done = finished(alloc, work, settings, draft)?;
     Ok(done)
 }

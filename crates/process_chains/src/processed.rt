@@ -1,8 +1,9 @@
 // An item that was processed.
-ghost use Rattle.std.specs.Prelude.{◌≡◌};
+ghost use Rattle.std.specs.Prelude.{◌≡◌, ◌≤◌, is_some, IfSome};
 ghost use Rattle.std.specs.Option.{option_copied};
 ghost use Rattle.crawl_history.specs.Ends.{Suits};
 ghost use Rattle.crawl_history.specs.Facts.{Archive, Facts};
+ghost use Rattle.journal_valid.specs.Ends.{IsBody, IsEnd};
 ghost use Rattle.process_chains.specs.Done.{IsBodyOf, IsDone, block_of, payload_of};
 ghost use Rattle.process_chains.specs.Endings.{end_with};
 
@@ -96,11 +97,12 @@ impl Processed {
     }
 
     /// The end that is recorded, with this body. It suits the work as soon as the body is that of the response, where one
-    /// came, and there is none else.
+    /// came, and there is none else; with a body that a line of the journal can name, so can one name the end.
     pub fn end_with(&self, body: Option<Body>) -> End
         ensures is { result ≡ end_with self.now.ending body }
         ensures suits { (f : Facts) (a : Archive) → f.settings ≡ self.now.settings → IsBodyOf f a self.now.work.item.uri self.now.ending self.now.reply body
             → Suits f a self.now.work.tries self.now.work.item result self.now.work.verdict }
+        ensures valid { 1 ≤ self.now.work.tries → is_some body ≡ is_some self.now.reply → IfSome body IsBody → IsEnd result }
     {
         end_of(&self.ending, body)
     }

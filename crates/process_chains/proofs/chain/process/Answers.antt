@@ -23,7 +23,8 @@ pub finished-requires : goal.finished-requires
 finished-requires g c =
     let at_end = c.loop-step.invariant in
     let long = ap (λ (l : List Step). length l) c.fetch_chain-step-items.ensures in
-    ready_by g.L.Link (g.C.Clock.gives c.args.clock.now) c.args.settings.now c.args.work.now c.args.link.now c.loop-step.link c.loop-step.draft at_end.stands
+    ready_by g.L.Link (g.C.Clock.gives c.args.clock.now) c.args.settings.now c.args.work.now c.args.link.now c.loop-step.link c.loop-step.draft
+    (omega (arith, c.try_of.ensures.is, c.try_of.ensures.small)) at_end.stands
     (omega (arith, long, c.loop-step-test.false, at_end.past))
 
 pub returns-clause-suits : goal.returns-clause-suits
