@@ -1,0 +1,6 @@
+use Rattle.std.proofs.Common.{◌≡◌, map, take}
+use Rattle.frontier_adds.specs.Candidates.{link_items, seed_item}
+use Rattle.frontier_adds.proofs.candidates.link_items.Given as goal
+
+abbrev pub invariant-loop-found : goal.invariant-loop-found
+invariant-loop-found l = l.items ≡ link_items l.page (take l.found-index l.links)
