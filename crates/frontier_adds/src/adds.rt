@@ -65,15 +65,7 @@ pub fn finish_adds(
 {
     items_are_valid();
     valid_is_computed();
-    kept_adds(
-        alloc,
-        places,
-        scope,
-        &work.item,
-        work.verdict,
-        end,
-        links,
-    )
+    kept_adds(alloc, places, scope, &work.item, work.verdict, end, links)
 }
 
 /// How many of these items have a key that is nowhere.

@@ -55,11 +55,7 @@ fn page_adds(
 }
 
 /// What an item adds that needs its robots file first.
-fn robots_adds(
-    alloc: Global,
-    places: &BTreeMap<Key, Known>,
-    item: &Item,
-) -> Result<Items, NoMemory>
+fn robots_adds(alloc: Global, places: &BTreeMap<Key, Known>, item: &Item) -> Result<Items, NoMemory>
     requires { IsUri item.now.uri }
     ensures { IfOk result (λ adds. adds ≡ kept.unless_kept_waiting places.now (robots_of item.now)) }
 {

@@ -104,7 +104,10 @@ fn seeds_in_scope_that_are_nowhere_are_added_once(rt: HostRuntime) -> Result<(),
         ],
     )?;
     let adds = seed_adds(alloc, &places(alloc)?, &scope(alloc)?, list.as_slice())?;
-    assert_eq!(rt; listed(alloc, &adds)?.as_str(), "http://a.test/  3|robots0:test,a,  0|");
+    assert_eq!(rt;
+        listed(alloc, &adds)?.as_str(),
+        "http://a.test/  3|robots0:test,a,  0|"
+    );
     assert_eq!(rt; new_keys(&places(alloc)?, adds.as_slice()), 2);
     Ok(())
 }
@@ -182,7 +185,11 @@ fn ends_add_new_links_and_the_robots_files_that_are_needed(rt: HostRuntime) -> R
         ..page
     };
     let rows = [
-        (page, &found[..], "http://b.test/1 LE 2|http://b.test/2 LR 1|"),
+        (
+            page,
+            &found[..],
+            "http://b.test/1 LE 2|http://b.test/2 LR 1|",
+        ),
         // a page that failed
         (
             Way {
@@ -194,7 +201,14 @@ fn ends_add_new_links_and_the_robots_files_that_are_needed(rt: HostRuntime) -> R
         ),
         // a robots file that is redirected, or came; once too often; to another class; to one that waits
         (robots, &moved[..], "robots1:test,b, LPR 0|"),
-        (Way { code: 200, ..robots }, &moved[..], ""),
+        (
+            Way {
+                code: 200,
+                ..robots
+            },
+            &moved[..],
+            "",
+        ),
         (
             Way {
                 path: "PRRRRR",

@@ -55,11 +55,11 @@ module _ (f : Facts) (a : Archive) (P : History → Type 0) (keep : (h : History
   through before (e ∷ events) holds steps =
       subst (λ l. P (history_of l)) (append_assoc before (e ∷ []) events) (through (before ++ e ∷ []) events (keep (history_of before) e holds steps.0) steps.1)
 
-  legal_keeps : (events : List Event) → P (history_of []) → Legal f a events → P (history_of events)
+  pub legal_keeps : (events : List Event) → P (history_of []) → Legal f a events → P (history_of events)
   legal_keeps events start legal = through [] events start legal
 
 -- times end with the year 9999
-in_time : (f : Facts) (a : Archive) (events : List Event) → Legal f a events → last_time (history_of events) ≤ MAX_MS
+pub in_time : (f : Facts) (a : Archive) (events : List Event) → Legal f a events → last_time (history_of events) ≤ MAX_MS
 in_time f a events legal =
     legal_keeps f a (λ h. last_time h ≤ MAX_MS) (λ h e before step. omega (arith, before, step.in_time, last_time-with_event h e)) events (omega arith) legal
 
@@ -70,11 +70,11 @@ in_room f a events legal =
 
 -- ---- all that was added is valid
 
-and_left : (a b : Bool) → (a && b) ≡ true → a ≡ true
+pub and_left : (a b : Bool) → (a && b) ≡ true → a ≡ true
 and_left true b h = refl
 and_left false b h = cc
 
-and_right : (a b : Bool) → (a && b) ≡ true → b ≡ true
+pub and_right : (a b : Bool) → (a && b) ≡ true → b ≡ true
 and_right true b h = h
 and_right false b h = cc
 
@@ -111,22 +111,25 @@ module _ (pages : Pages) (a : Archive) (core : Core) (legal : Legal (facts core 
       core.events tt legal
 
   -- the item with which a key was added last
+  pub added_add : (key : List ℕ) (item : Item) → last_added (history core) key ≡ Some item → is_add item ≡ true
+  added_add key item added = last_valid key (all_adds (history core)) item all_valid added
+
   added_valid : (key : List ℕ) (item : Item) → last_added (history core) key ≡ Some item → is_item item ≡ true
-  added_valid key item added = and_left (is_item item) _ (last_valid key (all_adds (history core)) item all_valid added)
+  added_valid key item added = and_left (is_item item) _ (added_add key item added)
 
 -- ---- the step
 
 -- something was added, so there are events
-some_event : (events : List Event) (key : List ℕ) (item : Item) → last_added (history_of events) key ≡ Some item → nat_lt 0 (0 + length events) ≡ true
+pub some_event : (events : List Event) (key : List ℕ) (item : Item) → last_added (history_of events) key ≡ Some item → nat_lt 0 (0 + length events) ≡ true
 some_event [] key item added = cc
 some_event (e ∷ events) key item added = lt-ltb 0 (0 + length (e ∷ events)) (omega arith)
 
-and_both : (a b : Bool) → a ≡ true → b ≡ true → (a && b) ≡ true
+pub and_both : (a b : Bool) → a ≡ true → b ≡ true → (a && b) ≡ true
 and_both true true one other = refl
 and_both true false one other = other
 and_both false b one other = one
 
-or_left : (a b : Bool) → a ≡ true → (a || b) ≡ true
+pub or_left : (a b : Bool) → a ≡ true → (a || b) ≡ true
 or_left true b h = refl
 or_left false b h = cc
 

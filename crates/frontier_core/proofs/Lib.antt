@@ -1,11 +1,12 @@
 pub mod Deciding
 pub mod Emits
+pub mod Finishes
 pub mod Firsts
+pub mod Held
 pub mod Kept
 pub mod Limits
 pub mod Ordering
 pub mod Permuting
 pub mod Seeded
-pub mod Seeding
 pub mod Standing
 pub mod Waking

@@ -1,7 +1,7 @@
 -- What is kept of robots files, against the history.
 use Rattle.std.proofs.Common.{◌≡◌, ℕ, ◌+◌, Bool, true, false, ◌==◌, List, [], ◌∷◌, ◌++◌, take, refl, sym, ◌∙◌, ap, subst, Option, Some, None}
-use Rattle.std.specs.Prelude.{nat_le, option_and_then, option_to_list, if◌then◌else◌}
-use Rattle.std.specs.BTreeMap.{is_at}
+use Rattle.std.specs.Prelude.{◌&&◌, bytes_eq, nat_le, option_and_then, option_to_list, if◌then◌else◌}
+use Rattle.std.specs.BTreeMap.{BTreeMap, IsOrdered, is_at}
 use Rattle.std.specs.Cmp.Lexicographic.{slice_cmp}
 use Rattle.std.specs.Map.{lookup}
 use Rattle.std.specs.Option.{option_or}
@@ -13,18 +13,24 @@ use Rattle.crawl_kinds.specs.Event.{Finishing, finish_of}
 use Rattle.crawl_history.specs.Facts.{Facts, Archive}
 use Rattle.crawl_history.specs.History.{History, history_of, is_session, session_finishes}
 use Rattle.crawl_history.specs.History as step
-use Rattle.crawl_history.specs.Outcomes.{is_success_or_failure}
-use Rattle.crawl_history.specs.Robots.{RobotsState, NotKnown, NotReached, Rules, AllAllowed, cited_block, is_robots_finish, redirect_of, robots_bytes, robots_finish, robots_life, state_by, state_by_outcome, state_by_redirect, state_by_status, status_class}
+use Rattle.crawl_history.specs.Outcomes.{is_prerequisite, is_success_or_failure}
+use Rattle.crawl_history.specs.Robots.{RobotsState, NotKnown, NotReached, Rules, AllAllowed, cited_block, is_robots_finish, redirect_of, robots_bytes, robots_finish, robots_life, robots_state, state_by, state_by_outcome, state_by_redirect, state_by_status, status_class}
+use Rattle.crawl_history.specs.Queues.{in_class}
 use Rattle.crawl_history.specs.Scans.{last_of}
 use Rattle.crawl_history.specs.Verdicts.{verdict_by, delay_by}
 use Rattle.history_steps.proofs.Lists.{last_of-snoc}
 use Rattle.history_steps.proofs.Sessions.{session_finishes-with_event}
+use Rattle.std.proofs.lemmas.Cmp.{nat_list_cmp_total}
 use Rattle.std.proofs.lemmas.List.{append-nil}
+use Rattle.std.proofs.lemmas.Map.Lookups.{btree_map_from_get, exact_bytes}
+use Rattle.std.proofs.lemmas.Slice.Eq.{bytes_eq-Decides}
+use Rattle.frontier_memo.specs.Sums.{class_at}
 use Rattle.robots_spec.specs.Groups.{agent_rules}
 use Rattle.core_facts.specs.CoreFacts.{Pages}
 use Rattle.frontier_core.specs.Core.{Core, facts, history, robots_at, with_event}
 use Rattle.frontier_core.specs.Robots.{said_by_status, verdict_said, delay_said}
-use Rattle.frontier_core.specs.Standing.{HasNoRobots, Leaves, SaysSame, Stands}
+use Rattle.frontier_core.specs.Standing.{EndsWith, HasNoRobots, Leaves, LeavesEnd, SaysSame, Stands, kept_over}
+use Rattle.frontier_core.specs.declared.robots.KeptRobots.{KeptRobots}
 use Rattle.frontier_core.specs.declared.robots.RobotsSay.{RobotsSay}
 use Rattle.frontier_core.specs.declared.robots.RobotsSay.TheVariants as says
 
@@ -129,3 +135,73 @@ module _ (pages : Pages) (a : Archive) (core : Core) (e : Event) (goes : is_sess
   stands_still ends class =
       subst (λ o. SaysSame (facts core pages) (λ t. state_by (facts core pages) a t o) (robots_at core class))
       (sym (finish_more (history core) e None class goes ends)) (is class)
+
+-- ---- an end
+
+-- what is to be kept of the end of a robots file is so of any end of one
+pub leaves_end :
+    (f : Facts) (a : Archive) (c : Finishing) → is_prerequisite c.item ≡ true → (kept : Option KeptRobots) → Leaves f a c kept → LeavesEnd f a c kept
+leaves_end f a c robots None leaves = ap (λ b. b && is_success_or_failure c.end.outcome) robots ∙ leaves
+leaves_end f a c robots (Some kept) leaves = (ap (λ b. b && is_success_or_failure c.end.outcome) robots ∙ leaves.0, leaves.1)
+
+pub same_core : (x y : Core) → x.settings ≡ y.settings → x.scope ≡ y.scope → x.events ≡ y.events → x.robots ≡ y.robots → x ≡ y
+same_core x y s p e r i = record { settings = s i; scope = p i; events = e i; robots = r i }
+
+module _ (pages : Pages) (a : Archive) (old : Core) (c : Finishing) (stands : Stands pages a old) (class : List ℕ) where
+  abbrev h : History
+  h = history old
+
+  -- what the states of the class say, with or without this end
+  abbrev Says : Bool → Option KeptRobots → Type 0
+  Says b kept = SaysSame (facts old pages) (λ t. state_by (facts old pages) a t (option_or (if b then Some c else None) (robots_finish h class))) kept
+
+  none_kept : (x y z : Bool) → (y && z) ≡ false → Says ((x && y) && z) (robots_at old class)
+  none_kept false y z is = stands class
+  none_kept true false z is = stands class
+  none_kept true true false is = stands class
+  none_kept true true true is = cc
+
+  some_kept :
+      (kept : KeptRobots) → SaysSame (facts old pages) (λ t. state_by (facts old pages) a t (Some c)) (Some kept)
+      → (x y z : Bool) → (y && z) ≡ true → Says ((x && y) && z) (if x then Some kept else robots_at old class)
+  some_kept kept says false y z is = stands class
+  some_kept kept says true true true is = says
+  some_kept kept says true true false is = cc
+  some_kept kept says true false z is = cc
+
+  class_stands : (kept : Option KeptRobots) → LeavesEnd (facts old pages) a c kept → Says (is_robots_finish class c) (kept_over kept c.item.class class (robots_at old class))
+  class_stands None leaves = none_kept (in_class class c.item) (is_prerequisite c.item) (is_success_or_failure c.end.outcome) leaves
+  class_stands (Some kept) leaves = some_kept kept leaves.1 (in_class class c.item) (is_prerequisite c.item) (is_success_or_failure c.end.outcome) leaves.0
+
+-- with what is to be kept of an end, the core still stands
+pub stands_ended :
+    (pages : Pages) (a : Archive) (old new : Core) (c : Finishing) (e : Event) (kept : Option KeptRobots) → is_session e ≡ false → finish_of e ≡ Some c
+    → LeavesEnd (facts old pages) a c kept → EndsWith old new e c.item.class kept → Stands pages a old → Stands pages a new
+stands_ended pages a old new c e kept goes ends leaves is stands class =
+    subst (λ (core : Core). SaysSame (facts core pages) (robots_state (facts core pages) a (history core) class) (robots_at core class))
+    (same_core mid new (sym is.settings) (sym is.scope) (sym is.events) refl)
+    (subst (λ o. SaysSame (facts old pages) (λ t. state_by (facts old pages) a t o) (robots_at new class)) (sym (finish_more (history old) e (Some c) class goes ends))
+    (subst (λ k. SaysSame (facts old pages) (λ t. state_by (facts old pages) a t (option_or (if is_robots_finish class c then Some c else None) (robots_finish (history old) class))) k)
+    (sym (is.robots class)) (class_stands pages a old c stands class kept leaves)))
+  where
+    mid : Core
+    mid = record { settings = old.settings; scope = old.scope; events = old.events ++ e ∷ []; robots = new.robots }
+
+-- ---- a core that is as before
+
+-- what is kept of each class, in order, is one list
+pub same_robots :
+    (m n : BTreeMap (List ℕ) KeptRobots) → IsOrdered (slice_cmp nat_cmp) m → IsOrdered (slice_cmp nat_cmp) n
+    → ((q : List ℕ) → class_at m q ≡ class_at n q) → m.entries ≡ n.entries
+same_robots m n s t same = btree_map_from_get nat_list_cmp_total m n s t same exact_bytes
+
+-- what was kept of a class, put over what was put over it, is what is kept of each class
+pub back_again :
+    (robots : BTreeMap (List ℕ) KeptRobots) (class q : List ℕ) (before over after : Option KeptRobots) (kept : KeptRobots) → before ≡ class_at robots class
+    → over ≡ (if bytes_eq class q then Some kept else class_at robots q) → after ≡ (if bytes_eq class q then before else over) → after ≡ class_at robots q
+back_again robots class q before over after kept was is back =
+    back ∙ ap (λ o. if bytes_eq class q then before else o) is ∙ by_test (bytes_eq class q) refl
+  where
+    by_test : (b : Bool) → bytes_eq class q ≡ b → (if b then before else if b then Some kept else class_at robots q) ≡ class_at robots q
+    by_test true same = was ∙ ap (class_at robots) ((bytes_eq-Decides class q).0 same)
+    by_test false same = refl

@@ -4,8 +4,9 @@
 --     with_event core e      the core with one event more
 --     next_time core now      the time of an event at a moment
 --     known_count core      how many keys are somewhere
+--     absent_count core items      how many of these items have a key that is nowhere
 --     seed_adds core pages list      the items that seeds add
-use Rattle.std.specs.Prelude.{ℕ, min, max, List, [], ◌∷◌, ◌++◌, length, Option}
+use Rattle.std.specs.Prelude.{ℕ, min, max, List, [], ◌∷◌, ◌++◌, count_by, length, Option}
 use Rattle.std.specs.BTreeMap.{is_at}
 use Rattle.std.specs.Cmp.Lexicographic.{slice_cmp}
 use Rattle.std.specs.Map.{lookup}
@@ -15,7 +16,7 @@ use Rattle.crawl_kinds.specs.declared.event.TheConstants.{MAX_MS}
 use Rattle.crawl_kinds.specs.declared.event.Event.{Event}
 use Rattle.crawl_kinds.specs.declared.item.Item.{Item}
 use Rattle.crawl_history.specs.History.{History, history_of, last_time}
-use Rattle.crawl_history.specs.Places.{known_keys}
+use Rattle.crawl_history.specs.Places.{is_absent, known_keys, place_of}
 use Rattle.crawl_history.specs.Facts.{Facts}
 use Rattle.crawl_history.specs.Adds.{seed_candidates, new_items}
 use Rattle.scope_spec.specs.Decision.{ScopeRules}
@@ -52,6 +53,10 @@ next_time core now = max (last_time (history core)) (min now MAX_MS)
 -- how many keys are somewhere
 abbrev pub known_count : Core → ℕ
 known_count core = length (known_keys (history core))
+
+-- how many of these items have a key that is nowhere
+abbrev pub absent_count : Core → List Item → ℕ
+absent_count core items = count_by (λ i. is_absent (place_of (history core) i.key)) items
 
 -- the items that these seeds add: those in scope whose key is nowhere, each key once
 abbrev pub seed_adds : Core → Pages → List (List ℕ) → List Item

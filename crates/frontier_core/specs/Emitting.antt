@@ -1,15 +1,18 @@
 -- What an emit answers and makes.
+--     IsHeld core one      what was handed out is out
 --     IsOut old new caller now one      it went out, as one event more
 --     Moves old new caller now answer      what an answer does to the core
 --     IsStep pages a core one, Answers pages a core now answer      the answer is that of the history
-use Rattle.std.specs.Prelude.{◌≡◌, ℕ, ◌+◌}
+use Rattle.std.specs.Prelude.{◌≡◌, ℕ, ◌+◌, Some}
 use Rattle.crawl_kinds.specs.declared.event.Event.{Event}
 use Rattle.crawl_kinds.specs.declared.event.Event.TheVariants.{Emit}
+use Rattle.crawl_kinds.specs.Event.{Emission}
 use Rattle.crawl_history.specs.Counts.{try_number}
 use Rattle.crawl_history.specs.Emission as emission
 use Rattle.crawl_history.specs.Facts.{Archive}
 use Rattle.crawl_history.specs.History.{ticket_count}
 use Rattle.crawl_history.specs.Steps.{Legal, Permits, Step}
+use Rattle.crawl_history.specs.Tickets.{emit_out}
 use Rattle.core_facts.specs.CoreFacts.{Pages}
 use Rattle.frontier_core.specs.Core.{Core, history, facts, next_time, with_event}
 use Rattle.frontier_core.specs.declared.emitted.Answer.{Answer}
@@ -21,6 +24,15 @@ use Rattle.frontier_memo.specs.Fits.{Fits}
 abbrev pub emit_event : Emitted → Event
 emit_event one = Emit one.work.at one.caller one.ticket one.work.verdict one.work.item
 
+-- the emit of what was handed out
+abbrev pub emission_of : Emitted → Emission
+emission_of one =
+    record { time = one.work.at; caller = one.caller; ticket = one.ticket; verdict = one.work.verdict; item = one.work.item }
+
+-- it is out
+abbrev pub IsHeld : Core → Emitted → Type 0
+IsHeld core one = emit_out (history core) one.ticket ≡ Some (emission_of one)
+
 -- its event is put behind the others, at the next time and under the next ticket; its item waits
 pub record IsOut (old new : Core) (caller now : ℕ) (one : Emitted) : Type 0 where
   pub kept : new ≡ with_event old (emit_event one)
@@ -28,6 +40,7 @@ pub record IsOut (old new : Core) (caller now : ℕ) (one : Emitted) : Type 0 wh
   pub at : one.work.at ≡ next_time old now
   pub asked_by : one.caller ≡ caller
   pub ticket : one.ticket ≡ ticket_count (history old) + 1
+  pub held : IsHeld new one
 
 -- without an item nothing changes
 abbrev pub Moves : Core → Core → ℕ → ℕ → Answer → Type 0

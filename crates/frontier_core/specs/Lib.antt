@@ -2,8 +2,8 @@ pub mod Answers
 pub mod Choosing
 pub mod Core
 pub mod Emitting
+pub mod Finishing
 pub mod Kept
 pub mod Robots
-pub mod SeedItems
 pub mod Standing
 pub mod Waiting

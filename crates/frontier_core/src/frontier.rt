@@ -1,7 +1,9 @@
 // The core.
-ghost use Rattle.std.specs.Prelude.{◌≡◌, ◌≤◌, ◌+◌, ℕ, true, [], All, IfOk, OnOk, OnErr, Err, option_map};
-ghost use Rattle.std.specs.List.{list_any};
+ghost use Rattle.std.specs.Prelude.{◌≡◌, ◌≤◌, ◌<◌, ◌+◌, ℕ, true, [], All, IfOk, IsTrue, OnOk, OnErr, Err, length, option_map};
+ghost use Rattle.std.specs.List.{list_all, list_any};
 ghost use Rattle.crawl_kinds.specs.Address.{IsUri};
+ghost use Rattle.crawl_kinds.specs.Event.{Finishing, adds_of};
+ghost use Rattle.crawl_history.specs.Adds as history_adds;
 ghost use Rattle.crawl_history.specs.Facts.{Archive};
 ghost use Rattle.crawl_history.specs.Citations.{cited_end};
 ghost use Rattle.crawl_history.specs.Emission as emission;
@@ -10,25 +12,31 @@ ghost use Rattle.crawl_history.specs.Places as places;
 ghost use Rattle.crawl_history.specs.Steps.{last_caller};
 ghost use Rattle.crawl_history.specs.Verdicts as verdicts;
 ghost use Rattle.core_facts.specs.CoreFacts.{Pages};
+ghost use Rattle.core_facts.specs.ValidEvent.{is_add};
+ghost use Rattle.extract_spec.specs.Joining.{IsLink};
+ghost use Rattle.frontier_adds.specs.Shown.{ShowsLinks};
 ghost use Rattle.frontier_core.specs.Core as core;
 ghost use Rattle.frontier_core.specs.Answers.{IsSeeded, IsFull};
 ghost use Rattle.frontier_core.specs.Choosing.{answer_by, IsReady};
-ghost use Rattle.frontier_core.specs.Emitting.{emit_event, Answers, Moves};
-ghost use Rattle.frontier_core.specs.Standing.{HasNoRobots, Stands};
+ghost use Rattle.frontier_core.specs.Emitting.{emit_event, Answers, IsHeld, Moves};
+ghost use Rattle.frontier_core.specs.Finishing.{finish_by, IsEnded, IsFinished, IsFullFor, Shows};
+ghost use Rattle.frontier_core.specs.Standing.{EndsWith, HasNoRobots, Stands};
 ghost use Rattle.frontier_core.specs.Waiting.{IsWaitingList};
 ghost use Rattle.frontier_memo.specs.Fits.{AllFit, EmitFits, Fits, IsFirstUnfit};
+ghost use Rattle.frontier_memo.specs.Laws.{are_new};
 ghost use Rattle.frontier_memo.specs.Sums.{saturated_edge};
 
 use crate::choosing::{self, Next, next_try};
 use crate::emitted::{Answer, Emitted};
-use crate::robots::{KeptRobots, verdict};
-use crate::seeds::taken;
+use crate::robots::{KeptRobots, kept_after, put_back, verdict};
 use crate::stop::FrontierStop;
 use crate::waiting::queued;
 use crawl_kinds::{
-    ClassKey, Copied, Edge, Event, Item, Items, Key, MAX_MS, Millis, NoMemory, Place, Settings,
-    Uris, Work,
+    ClassKey, Copied, Edge, End, Event, Item, Items, Key, MAX_MS, Millis, NoMemory, Place,
+    Settings, Uris, Work,
 };
+use extract_spec::Found;
+use frontier_adds::{finish_adds, new_keys, seed_adds};
 use frontier_memo::{FoldFault, Memo, Waiting, remember};
 use scope_rules::Scope;
 use std::alloc::Global;
@@ -162,6 +170,31 @@ impl Frontier {
         Ok(())
     }
 
+    /// Whether the job allows these items, as far as their keys are nowhere, beside the keys that are known.
+    fn room_for(&self, items: &[Item]) -> Result<(), FrontierStop>
+        ensures ok { OnOk result (core.known_count self.now + core.absent_count self.now items.now ≤ self.now.settings.max_keys) }
+        ensures full { (known adds : ℕ) → result ≡ Err (FrontierStop.Full known adds)
+            → (known ≡ core.known_count self.now) × (adds ≡ core.absent_count self.now items.now) × (self.now.settings.max_keys < known + adds) }
+    {
+        let known = self.known();
+        let adds = new_keys(&self.memo.places, items);
+        let most = self.settings.max_keys;
+        if most < known || most - known < adds {
+            return Err(FrontierStop::Full { known, adds });
+        }
+        Ok(())
+    }
+
+    /// What seeds add.
+    fn seed_adds(&self, alloc: Global, list: &Uris) -> Result<Items, NoMemory>
+        requires { All IsUri list.now }
+        ensures same { IfOk result (λ adds. (pages : Pages) → adds ≡ core.seed_adds self.now pages list.now) }
+        ensures fresh { IfOk result (λ adds. are_new (core.history self.now) adds ≡ true) }
+        ensures absent { IfOk result (λ adds. core.absent_count self.now adds ≡ length adds) }
+    {
+        seed_adds(alloc, &self.memo.places, &self.scope, list.as_slice())
+    }
+
     /// Adds those seeds that the scope takes and whose key is nowhere, each key once, at this moment, in milliseconds. No
     /// pages are asked, so that the event is the same whatever they are. `Full` tells that more keys would be known than
     /// the job allows.
@@ -174,13 +207,8 @@ impl Frontier {
         ensures err { OnErr result (self.new ≡ self.old) }
     {
         let time = self.next_time(now);
-        let adds = taken(alloc, &self.memo.places, &self.scope, list.as_slice())?;
-        let known = self.known();
-        let more = adds.as_slice().len() as u64;
-        let most = self.settings.max_keys;
-        if most < known || most - known < more {
-            return Err(FrontierStop::Full { known, adds: more });
-        }
+        let adds = self.seed_adds(alloc, list)?;
+        self.room_for(adds.as_slice())?;
         let event = Event::Seeds {
             time,
             list: list.copy()?,
@@ -229,6 +257,7 @@ impl Frontier {
         requires { EmitFits (core.history self.old) (ticket_count (core.history self.old) + 1) work.item }
         ensures ok { IfOk result (λ one. (self.new ≡ core.with_event self.old (emit_event one)) × Fits (core.history self.old) (emit_event one)) }
         ensures same { IfOk result (λ one. (one.work ≡ work) × (one.caller ≡ caller) × (one.ticket ≡ ticket_count (core.history self.old) + 1)) }
+        ensures held { IfOk result (λ one. IsHeld self.new one) }
         ensures err { OnErr result (self.new ≡ self.old) }
     {
         let ticket = self.memo.tickets + 1;
@@ -245,6 +274,48 @@ impl Frontier {
             ticket,
             caller,
         })
+    }
+
+    /// What the end of an item that is out adds, with the links of its page.
+    fn adds_of(
+        &self,
+        alloc: Global,
+        work: &Work,
+        end: &End,
+        links: &[Found],
+    ) -> Result<Items, NoMemory>
+        requires uri { IsUri work.now.item.uri }
+        requires links { All IsLink links.now }
+        ensures same { IfOk result (λ adds. (pages : Pages) (a : Archive) (c : Finishing) → c.item ≡ work.now.item → c.end ≡ end.now
+            → ShowsLinks (core.facts self.now pages) a c links.now → adds ≡ history_adds.finish_adds (core.facts self.now pages) a (core.history self.now) c work.now.verdict) }
+        ensures fresh { IfOk result (λ adds. are_new (core.history self.now) adds ≡ true) }
+        ensures valid { IfOk result (λ adds. (pages : Pages) (a : Archive) (c : Finishing) → c.item ≡ work.now.item → c.end ≡ end.now
+            → ShowsLinks (core.facts self.now pages) a c links.now → IsTrue (is_add work.now.item) → IsTrue (list_all is_add adds)) }
+    {
+        finish_adds(alloc, &self.memo.places, &self.scope, work, end, links)
+    }
+
+    /// Puts the end of an item behind the other events, and keeps what it says of the robots file of a class. For want of
+    /// memory all is as before.
+    fn end(
+        &mut self,
+        event: Event,
+        class: &ClassKey,
+        kept: Option<KeptRobots>,
+    ) -> Result<(), NoMemory>
+        requires { Fits (core.history self.old) event }
+        ensures ok { OnOk result (EndsWith self.old self.new event class.now kept) }
+        ensures err { OnErr result (self.new ≡ self.old) }
+    {
+        let Some(kept) = kept else {
+            return self.record(event);
+        };
+        let before = self.robots.insert(class.copy()?, kept)?;
+        if let Err(stop) = self.record(event) {
+            put_back(&mut self.robots, class, before);
+            return Err(stop);
+        }
+        Ok(())
     }
 
     /// Hands out the item that goes first at a moment, in milliseconds, to one of at most 32 callers, counted from 0, and
@@ -270,5 +341,51 @@ impl Frontier {
         };
         let emitted = self.put_out(caller, work)?;
         Ok(Answer::Work(emitted))
+    }
+
+    /// Puts the end of an item that is out behind the other events, at a moment in milliseconds, with what it adds by the
+    /// links of its page, and keeps what a robots file says by its payload. `Full` tells that more keys would be known than
+    /// the job allows. After that, and for want of memory, all is as before, but that the item stays out.
+    pub fn finish(
+        &mut self,
+        alloc: Global,
+        emitted: Emitted,
+        end: End,
+        links: &[Found],
+        payload: &[u8],
+        now: Millis,
+    ) -> Result<Event, FrontierStop>
+        requires held { IsHeld self.old emitted }
+        requires address { IsUri emitted.work.item.uri }
+        requires links { All IsLink links.now }
+        ensures ended { IfOk result (λ e. IsEnded self.old self.new emitted end now e) }
+        ensures finished { IfOk result (λ e. (pages : Pages) (a : Archive)
+            → Shows (core.facts self.old pages) a (finish_by self.old emitted end now (adds_of e)) links.now payload.now
+            → IsFinished pages a self.old self.new emitted (finish_by self.old emitted end now (adds_of e))) }
+        ensures room { IfOk result (λ _. core.known_count self.new ≤ self.old.settings.max_keys) }
+        ensures full { (known adds : ℕ) → result ≡ Err (FrontierStop.Full known adds) → IsFullFor self.old emitted end now links.now known adds }
+        ensures err { OnErr result (self.new ≡ self.old) }
+    {
+        let time = self.next_time(now);
+        let Emitted {
+            work,
+            ticket,
+            caller,
+        } = emitted;
+        let adds = self.adds_of(alloc, &work, &end, links)?;
+        self.room_for(adds.as_slice())?;
+        let agent = &self.settings.agent;
+        let kept = kept_after(alloc, agent, &work.item, time, &end, payload)?;
+        let class = work.item.class.copy()?;
+        let event = Event::Finish {
+            time,
+            caller,
+            ticket,
+            item: work.item,
+            end,
+            adds,
+        };
+        self.end(event.copy()?, &class, kept)?;
+        Ok(event)
     }
 }

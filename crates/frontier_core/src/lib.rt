@@ -4,9 +4,7 @@
 mod choosing;
 mod emitted;
 mod frontier;
-mod item;
 mod robots;
-mod seeds;
 mod stop;
 mod waiting;
 

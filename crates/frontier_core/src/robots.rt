@@ -1,9 +1,13 @@
 // What is kept of the robots files of classes, and what that says.
-ghost use Rattle.std.specs.Prelude.{◌≡◌, ◌/◌, ◌==◌, IfOk, Some, nat_abs, take};
+ghost use Rattle.std.specs.Prelude.{◌≡◌, ◌/◌, ◌==◌, ℕ, List, IfOk, Some, true, bytes_eq, is_some, nat_abs, take, if◌then◌else◌};
+ghost use Rattle.std.specs.BTreeMap.{IsOrdered};
+ghost use Rattle.std.specs.Cmp.Lexicographic.{slice_cmp};
+ghost use Rattle.std.specs.Ordering.{nat_cmp};
 ghost use Rattle.std.specs.List.{position_or_len};
 ghost use Rattle.std.specs.Option.{option_copied};
 ghost use Rattle.crawl_kinds.specs.Event.{Finishing};
 ghost use Rattle.crawl_history.specs.Facts.{Archive};
+ghost use Rattle.crawl_kinds.specs.declared.event.Outcome.TheVariants as outcome;
 ghost use Rattle.crawl_history.specs.Outcomes as outcomes;
 ghost use Rattle.crawl_history.specs.Robots.{cited_block};
 ghost use Rattle.crawl_history.specs.Verdicts as verdicts;
@@ -11,11 +15,15 @@ ghost use Rattle.core_facts.specs.CoreFacts.{Pages, is_secure};
 ghost use Rattle.scope_spec.specs.UriParts.{colon};
 ghost use Rattle.frontier_core.specs.Core.{Core, facts, history, robots_at};
 ghost use Rattle.frontier_core.specs.Robots.{said_at, said_by_status, verdict_said, kept_delay};
-ghost use Rattle.frontier_core.specs.Standing.{Leaves, Stands, StandingLaws};
+ghost use Rattle.frontier_core.specs.Standing.{Leaves, LeavesEnd, Stands, StandingLaws};
+ghost use Rattle.frontier_memo.specs.Sums.{class_at};
 
-use crawl_kinds::{End, Item, Key, Millis, NoMemory, Outcome, Settings, Uri, Verdict};
+use crawl_kinds::{ClassKey, End, Item, Key, Millis, NoMemory, Outcome, Settings, Uri, Verdict};
+use frontier_adds::is_prerequisite;
 use robots_rules::{Robots, robots_path};
 use std::alloc::Global;
+use std::collections::BTreeMap;
+use std::mem;
 
 /// How long a robots file holds: a day, in milliseconds (RFC 9309 section 2.4).
 const ROBOTS_LIFE: Millis = 86_400_000;
@@ -91,13 +99,6 @@ fn is_secure(uri: &Uri) -> bool
     up_to(bytes, colon_at(bytes)) == b"https".as_slice()
 }
 
-/// Whether an item is a robots file, or what one redirects to.
-pub fn is_prerequisite(item: &Item) -> bool
-    ensures { result ≡ outcomes.is_prerequisite item.now }
-{
-    item.key.as_bytes().starts_with(b"robots")
-}
-
 /// The verdict on an item at a moment, in milliseconds, by what is kept of the robots file of its class. It fails for want
 /// of memory alone.
 pub fn verdict(
@@ -167,7 +168,7 @@ pub fn kept_of(
     payload: &[u8],
 ) -> Result<Option<KeptRobots>, NoMemory>
     ensures { IfOk result (λ kept. (pages : Pages) (a : Archive) (core : Core) (c : Finishing) → core.settings.agent ≡ agent.now
-        → c.time ≡ time → c.end ≡ end.now → payload.now ≡ pages.payload (cited_block a c.end.body)
+        → c.time ≡ time → c.end ≡ end.now → (c.end.outcome ≡ outcome.Success → payload.now ≡ pages.payload (cited_block a c.end.body))
         → Leaves (facts core pages) a c kept) }
 {
     match end.outcome {
@@ -181,6 +182,46 @@ pub fn kept_of(
         })),
         Outcome::Disregard => Ok(None),
         Outcome::Retry => Ok(None),
+    }
+}
+
+/// What is to be kept of an end at a moment, in milliseconds, with the payload of the response: nothing where it is that of
+/// no robots file. It fails for want of memory alone.
+pub fn kept_after(
+    alloc: Global,
+    agent: &Key,
+    item: &Item,
+    time: Millis,
+    end: &End,
+    payload: &[u8],
+) -> Result<Option<KeptRobots>, NoMemory>
+    ensures { IfOk result (λ kept. (pages : Pages) (a : Archive) (core : Core) (c : Finishing) → core.settings.agent ≡ agent.now
+        → c.item ≡ item.now → c.time ≡ time → c.end ≡ end.now
+        → (c.end.outcome ≡ outcome.Success → outcomes.is_prerequisite c.item ≡ true → payload.now ≡ pages.payload (cited_block a c.end.body))
+        → LeavesEnd (facts core pages) a c kept) }
+{
+    if !is_prerequisite(item) {
+        return Ok(None);
+    }
+    kept_of(alloc, agent, time, end, payload)
+}
+
+/// Keeps of a class what was kept before something else was put over it. It takes no memory.
+pub fn put_back(
+    robots: &mut BTreeMap<ClassKey, KeptRobots>,
+    class: &ClassKey,
+    before: Option<KeptRobots>,
+)
+    requires { is_some (class_at robots.old class.now) ≡ true }
+    ensures back { (q : List ℕ) → class_at robots.new q ≡ (if bytes_eq class.now q then before else class_at robots.old q) }
+    ensures ordered { IsOrdered (slice_cmp nat_cmp) robots.new }
+{
+    let Some(before) = before else {
+        robots.remove(class);
+        return;
+    };
+    if let Some(kept) = robots.get_mut(class) {
+        drop(mem::replace(kept, before));
     }
 }
 

@@ -3,12 +3,16 @@ ghost use Rattle.std.specs.Prelude.{◌≡◌, true, IfOk, All};
 ghost use Rattle.std.specs.List.{list_any};
 ghost use Rattle.crawl_kinds.specs.Address.{IsUri};
 ghost use Rattle.crawl_history.specs.History.{is_session};
+ghost use Rattle.extract_spec.specs.Joining.{IsLink};
+ghost use Rattle.frontier_core.specs.Emitting.{IsHeld};
 
-use crate::item::seed_item;
 use crate::*;
 use crawl_kinds::{
-    End, Event, Fetch, Item, Items, Key, Notes, Outcome, Place, Settings, Uri, Uris, Verdict,
+    Copied, End, Event, Fetch, Item, Items, Key, Notes, Outcome, Place, Settings, Uri, Uris,
+    Verdict,
 };
+use extract_spec::Found;
+use item_form::seed_item;
 use scope_rules::{Decision, Rule, Scope};
 use std::alloc::Global;
 use std::test::Fail;
@@ -418,5 +422,160 @@ fn an_emit_hands_out_the_least_or_tells_why_none_goes(rt: HostRuntime) -> Result
     for (deeds, limits, moments, wanted) in &rows {
         assert_eq!(rt; answers(alloc, deeds, *limits, *moments)?.as_str(), *wanted);
     }
+    Ok(())
+}
+
+// Whether an address is read as itself.
+fn is_address(alloc: Global, uri: &Uri) -> bool
+    ensures { result ≡ true → IsUri uri.now }
+{
+    match parse_uri(alloc, uri.as_str()) {
+        Ok(own) => own == *uri,
+        Err(_) => false,
+    }
+}
+
+// Links of pages to go to.
+fn links(alloc: Global, texts: &[&str]) -> Result<Vec<Found>, Fail>
+    ensures { IfOk result (λ list. All IsLink list.items) }
+{
+    let mut list = Vec::new(alloc);
+    for text in texts {
+        let uri = parse_uri(alloc, text)?;
+        list.push(Found { letter: b'L', uri })?;
+    }
+    Ok(list)
+}
+
+// The end that a verdict has, where what is allowed came with a status of 200 at once.
+fn end_by(verdict: Verdict, now: u64) -> End {
+    let (outcome, code) = match verdict {
+        Verdict::Allowed => (Outcome::Success, 200),
+        Verdict::Precluded => (Outcome::Disregard, -9998),
+        Verdict::Needed => (Outcome::Retry, -50),
+        Verdict::Unsupported => (Outcome::Failure, -7),
+        Verdict::Unreachable => (Outcome::Failure, -61),
+    };
+    let fetch = match verdict {
+        Verdict::Allowed => Some(Fetch {
+            start: now,
+            duration: 0,
+        }),
+        _ => None,
+    };
+    End {
+        outcome,
+        code,
+        fetch,
+        body: None,
+        notes: Notes {
+            cut: None,
+            tries: 1,
+            cause: 0,
+        },
+    }
+}
+
+// The keys that an event adds, each behind a blank.
+fn keys_added(alloc: Global, event: &Event) -> Result<String, Fail> {
+    let mut text = String::new(alloc);
+    if let Event::Finish { adds, .. } = event {
+        for item in adds.as_slice() {
+            text.push(' ')?;
+            text.push_str(item.key.as_str())?;
+        }
+    }
+    Ok(text)
+}
+
+// What an end comes to: its address and code with the keys that it adds, or the two numbers for which it is refused.
+fn ended(
+    alloc: Global,
+    frontier: &mut Frontier,
+    one: Emitted,
+    found: &[Found],
+    payload: &[u8],
+) -> Result<String, Fail>
+    requires held { IsHeld frontier.old one }
+    requires links { All IsLink found.now }
+{
+    let Ok(uri) = one.work().item.uri.copy() else {
+        one.give_up();
+        return Err(Fail::from("no memory"));
+    };
+    if !is_address(alloc, &uri) {
+        one.give_up();
+        return Err(Fail::from("no address"));
+    }
+    let now = one.work().at;
+    let end = end_by(one.work().verdict, now);
+    let code = end.code;
+    match frontier.finish(alloc, one, end, found, payload, now) {
+        Ok(event) => {
+            let keys = keys_added(alloc, &event)?;
+            Ok(format!(in alloc; "{} {code}{}", uri.as_str(), keys.as_str())?)
+        }
+        Err(FrontierStop::Full { known, adds }) => { Ok(format!(in alloc; "full {known} {adds}")?) }
+        Err(FrontierStop::NoMemory) => Err(Fail::from("no memory")),
+    }
+}
+
+// What asking for an item and ending it at once comes to, at a moment counted from the start.
+fn turn(
+    alloc: Global,
+    frontier: &mut Frontier,
+    moment: u64,
+    texts: &[&str],
+    payload: &[u8],
+) -> Result<String, Fail> {
+    let found = links(alloc, texts)?;
+    match frontier.emit(alloc, 7, START.saturating_add(moment))? {
+        Answer::Work(one) => ended(alloc, frontier, one, &found, payload),
+        Answer::Empty { next: Some(next) } => {
+            Ok(format!(in alloc; "empty {}", next.saturating_sub(START))?)
+        }
+        Answer::Empty { next: None } => Ok(format!(in alloc; "empty")?),
+        Answer::Over => Ok(format!(in alloc; "over")?),
+    }
+}
+
+#[test]
+fn a_finish_adds_what_is_new_and_keeps_what_robots_files_say(rt: HostRuntime) -> Result<(), Fail> {
+    let alloc = rt.alloc();
+    let mut frontier = core_after(alloc, &[(Deed::Added(3), "http://a.test/")], 0, 0)?;
+    let page = ["http://a.test/x", "http://a.test/1", "http://c.example/"];
+    let many = [
+        "http://a.test/2",
+        "http://b.test/1",
+        "http://b.test/2",
+        "http://b.test/3",
+        "http://b.test/4",
+        "http://b.test/5",
+        "http://b.test/5",
+    ];
+    let rows = [
+        (0, &[][..], "", "http://a.test/ -50 robots0:test,a,"),
+        (
+            0,
+            &[][..],
+            "User-agent: *\nDisallow: /x",
+            "http://a.test/robots.txt 200",
+        ),
+        (0, &[][..], "", "empty 3000"),
+        (
+            3_000,
+            &page[..],
+            "",
+            "http://a.test/ 200 http://a.test/x http://a.test/1",
+        ),
+        (6_000, &page[..], "", "http://a.test/x -9998"),
+        (6_000, &many[..], "", "full 4 6"),
+        (9_000, &[][..], "", "empty"),
+    ];
+    for (moment, texts, payload, wanted) in &rows {
+        let came = turn(alloc, &mut frontier, *moment, texts, payload.as_bytes())?;
+        assert_eq!(rt; came.as_str(), *wanted);
+    }
+    assert_eq!(rt; frontier.known(), 4);
     Ok(())
 }
