@@ -9,7 +9,7 @@ use Rattle.crawl_kinds.specs.declared.item.Item.{Item}
 use Rattle.crawl_kinds.specs.declared.settings.Settings.{Settings}
 use Rattle.crawl_kinds.specs.declared.event.Verdict.{Verdict}
 use Rattle.crawl_kinds.specs.Event.{Finishing}
-use Rattle.crawl_history.specs.Adds.{finish_adds}
+use Rattle.crawl_history.specs.Adds.{finish_adds, new_items, seed_candidates}
 use Rattle.crawl_history.specs.Codes.{redirect_letter}
 use Rattle.crawl_history.specs.Facts.{Archive, Facts, Link}
 use Rattle.crawl_history.specs.History.{History}
@@ -79,3 +79,17 @@ adds_spelled made computed s scope pages a h c links verdict item adds all shown
     ∙ computed.adds (finish_adds (facts_with s (scope ∷ []) pages) a h c verdict)
     ((made.made s (scope ∷ []) pages).finish a h c verdict (ap is_add same ∙ spelled) (subst (λ (i : Item). IsUri i.uri) (sym same) address)
     (leads_on (facts_with s (scope ∷ []) pages) a c links all shown))
+
+by_recursion : {X : Type 0} (P : X → Type 0) (xs : List X) → All P xs → AllByRecursion P xs
+by_recursion P [] all = tt
+by_recursion P (x ∷ xs) all = (All-head P x xs all, by_recursion P xs (All-tail P x xs all))
+
+-- what seeds add can be spelled
+pub seeds_spelled :
+    (made : ItemsAreValid) (computed : ValidIsComputed) (s : Settings) (scope : ScopeRules) (pages : Pages) (h : History) (list : List (List ℕ))
+    (adds : List Item) → All IsUri list → adds ≡ new_items (facts_with s (scope ∷ []) pages) h (seed_candidates (facts_with s (scope ∷ []) pages) list)
+    → list_all is_add adds ≡ true
+seeds_spelled made computed s scope pages h list adds all is =
+    ap (list_all is_add) is
+    ∙ computed.adds (new_items (facts_with s (scope ∷ []) pages) h (seed_candidates (facts_with s (scope ∷ []) pages) list))
+    ((made.made s (scope ∷ []) pages).seeds h list (by_recursion IsUri list all))

@@ -24,7 +24,8 @@ use scope_rules::Scope;
 use std::alloc::Global;
 use std::collections::BTreeMap;
 
-/// What seeds add: those that the scope takes and whose keys are nowhere, each key once. It fails for want of memory alone.
+/// What seeds add: those that the scope takes and whose keys are nowhere, each key once. A journal can spell them. It fails
+/// for want of memory alone.
 pub fn seed_adds(
     alloc: Global,
     places: &BTreeMap<Key, Known>,
@@ -36,7 +37,10 @@ pub fn seed_adds(
         → adds ≡ history_adds.new_items (facts_with s (scope.now ∷ []) pages) h (history_adds.seed_candidates (facts_with s (scope.now ∷ []) pages) list.now)) }
     ensures fresh { IfOk result (λ adds. (h : History) → KeepsPlaces h places.now → are_new h adds ≡ true) }
     ensures absent { IfOk result (λ adds. (h : History) → KeepsPlaces h places.now → AllByRecursion (λ i. is_absent (place_of h i.key) ≡ true) adds) }
+    ensures valid { IfOk result (λ adds. (s : settings_type.Settings) (pages : Pages) (h : History) → KeepsPlaces h places.now → IsTrue (list_all is_add adds)) }
 {
+    items_are_valid();
+    valid_is_computed();
     let candidates = seed_items(alloc, list)?;
     taken(alloc, places, scope, candidates.as_slice())
 }

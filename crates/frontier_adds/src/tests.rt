@@ -126,136 +126,130 @@ fn end(outcome: Outcome, code: i32) -> End {
     }
 }
 
-// How an item was found and how it ended: its address and path, the verdict on it, and outcome and code of its end.
+// How an item ended: the verdict on it, and outcome and code of its end.
 #[derive(Clone, Copy)]
-struct Way<'a> {
-    uri: &'a str,
-    path: &'a str,
+struct Way {
     verdict: Verdict,
     outcome: Outcome,
     code: i32,
 }
 
-// What the end of an item adds.
-fn added(alloc: Global, way: Way<'_>, rows: &[(u8, &str)]) -> Result<String, Fail> {
-    let uri = parse_uri(alloc, way.uri)?;
-    let item = item_of(alloc, &uri, HopPath::new(alloc, way.path)?, None)?;
+const CAME: Way = Way {
+    verdict: Verdict::Allowed,
+    outcome: Outcome::Success,
+    code: 200,
+};
+
+const MOVED: Way = Way {
+    verdict: Verdict::Allowed,
+    outcome: Outcome::Success,
+    code: 301,
+};
+
+const FAILED: Way = Way {
+    verdict: Verdict::Allowed,
+    outcome: Outcome::Failure,
+    code: -404,
+};
+
+const NEEDED: Way = Way {
+    verdict: Verdict::Needed,
+    outcome: Outcome::Retry,
+    code: -50,
+};
+
+const PRECLUDED: Way = Way {
+    verdict: Verdict::Precluded,
+    outcome: Outcome::Disregard,
+    code: -9998,
+};
+
+// The links of a response.
+#[derive(Clone, Copy)]
+enum Shown {
+    Page,
+    Redirect,
+    Away,
+    Nothing,
+}
+
+fn found(alloc: Global, shown: Shown) -> Result<Vec<Found>, Fail>
+    ensures { IfOk result (λ list. All IsLink list.items) }
+{
+    match shown {
+        Shown::Page => links(
+            alloc,
+            &[
+                (b'L', "http://b.test/waits"),
+                (b'E', "http://b.test/1"),
+                (b'L', "http://b.test/done"),
+                (b'R', "http://a.example/"),
+                (b'R', "http://www.b.test/1"),
+                (b'R', "http://b.test/2"),
+            ],
+        ),
+        Shown::Redirect => links(
+            alloc,
+            &[(b'L', "http://b.test/r"), (b'R', "http://b.test/s")],
+        ),
+        Shown::Away => links(alloc, &[(b'R', "http://c.test/s")]),
+        Shown::Nothing => links(alloc, &[]),
+    }
+}
+
+// What the end of an item adds, which was found on a path.
+fn added(
+    alloc: Global,
+    text: &str,
+    path: &str,
+    way: Way,
+    shown: Shown,
+) -> Result<String, Fail> {
+    let uri = parse_uri(alloc, text)?;
+    let item = item_of(alloc, &uri, HopPath::new(alloc, path)?, None)?;
     let work = Work {
         item,
         verdict: way.verdict,
         at: 0,
         tries: 1,
     };
-    let found = links(alloc, rows)?;
+    let links = found(alloc, shown)?;
     let end = end(way.outcome, way.code);
-    let adds = finish_adds(alloc, &places(alloc)?, &scope(alloc)?, &work, &end, &found)?;
+    let places = places(alloc)?;
+    let adds = finish_adds(alloc, &places, &scope(alloc)?, &work, &end, &links)?;
     listed(alloc, &adds)
 }
 
 #[test]
 fn ends_add_new_links_and_the_robots_files_that_are_needed(rt: HostRuntime) -> Result<(), Fail> {
     let alloc = rt.alloc();
-    let page = Way {
-        uri: "http://b.test/",
-        path: "L",
-        verdict: Verdict::Allowed,
-        outcome: Outcome::Success,
-        code: 200,
-    };
-    let found = [
-        (b'L', "http://b.test/waits"),
-        (b'E', "http://b.test/1"),
-        (b'L', "http://b.test/done"),
-        (b'R', "http://a.example/"),
-        (b'R', "http://www.b.test/1"),
-        (b'R', "http://b.test/2"),
-    ];
-    let moved = [(b'L', "http://b.test/r"), (b'R', "http://b.test/s")];
-    let away = [(b'R', "http://c.test/s")];
-    let robots = Way {
-        uri: "http://b.test/robots.txt",
-        path: "LP",
-        code: 301,
-        ..page
-    };
-    let needed = Way {
-        verdict: Verdict::Needed,
-        outcome: Outcome::Retry,
-        code: -50,
-        ..page
-    };
+    let (page, other, new) = ("http://b.test/", "http://c.test/", "http://a.test/x");
+    let (robots, taken) = ("http://b.test/robots.txt", "http://c.test/robots.txt");
     let rows = [
+        // a page that came, and one that failed
         (
             page,
-            &found[..],
+            "L",
+            CAME,
+            Shown::Page,
             "http://b.test/1 LE 2|http://b.test/2 LR 1|",
         ),
-        // a page that failed
-        (
-            Way {
-                outcome: Outcome::Failure,
-                ..page
-            },
-            &found[..],
-            "",
-        ),
+        (page, "L", FAILED, Shown::Page, ""),
         // a robots file that is redirected, or came; once too often; to another class; to one that waits
-        (robots, &moved[..], "robots1:test,b, LPR 0|"),
-        (
-            Way {
-                code: 200,
-                ..robots
-            },
-            &moved[..],
-            "",
-        ),
-        (
-            Way {
-                path: "PRRRRR",
-                ..robots
-            },
-            &moved[..],
-            "",
-        ),
-        (robots, &away[..], ""),
-        (
-            Way {
-                uri: "http://c.test/robots.txt",
-                ..robots
-            },
-            &away[..],
-            "",
-        ),
+        (robots, "LP", MOVED, Shown::Redirect, "robots1:test,b, LPR 0|"),
+        (robots, "LP", CAME, Shown::Redirect, ""),
+        (robots, "PRRRRR", MOVED, Shown::Redirect, ""),
+        (robots, "LP", MOVED, Shown::Away, ""),
+        (taken, "P", MOVED, Shown::Away, ""),
         // a robots file that is needed: it is done, or waits, or is nowhere
-        (needed, &[], "robots0:test,b, LP 0|"),
-        (
-            Way {
-                uri: "http://c.test/",
-                ..needed
-            },
-            &[],
-            "",
-        ),
-        (
-            Way {
-                uri: "http://a.test/x",
-                path: "",
-                ..needed
-            },
-            &[],
-            "robots0:test,a, P 0|",
-        ),
-        (
-            Way {
-                verdict: Verdict::Precluded,
-                ..needed
-            },
-            &[],
-            "",
-        ),
+        (page, "L", NEEDED, Shown::Nothing, "robots0:test,b, LP 0|"),
+        (other, "", NEEDED, Shown::Nothing, ""),
+        (new, "", NEEDED, Shown::Nothing, "robots0:test,a, P 0|"),
+        (new, "", PRECLUDED, Shown::Nothing, ""),
     ];
-    for (way, found, wanted) in &rows {
-        assert_eq!(rt; added(alloc, *way, found)?.as_str(), *wanted);
+    for (text, path, way, shown, wanted) in &rows {
+        let own = added(alloc, text, path, *way, *shown)?;
+        assert_eq!(rt; own.as_str(), *wanted);
     }
     Ok(())
 }
