@@ -198,13 +198,7 @@ fn found(alloc: Global, shown: Shown) -> Result<Vec<Found>, Fail>
 }
 
 // What the end of an item adds, which was found on a path.
-fn added(
-    alloc: Global,
-    text: &str,
-    path: &str,
-    way: Way,
-    shown: Shown,
-) -> Result<String, Fail> {
+fn added(alloc: Global, text: &str, path: &str, way: Way, shown: Shown) -> Result<String, Fail> {
     let uri = parse_uri(alloc, text)?;
     let item = item_of(alloc, &uri, HopPath::new(alloc, path)?, None)?;
     let work = Work {
@@ -236,7 +230,13 @@ fn ends_add_new_links_and_the_robots_files_that_are_needed(rt: HostRuntime) -> R
         ),
         (page, "L", FAILED, Shown::Page, ""),
         // a robots file that is redirected, or came; once too often; to another class; to one that waits
-        (robots, "LP", MOVED, Shown::Redirect, "robots1:test,b, LPR 0|"),
+        (
+            robots,
+            "LP",
+            MOVED,
+            Shown::Redirect,
+            "robots1:test,b, LPR 0|",
+        ),
         (robots, "LP", CAME, Shown::Redirect, ""),
         (robots, "PRRRRR", MOVED, Shown::Redirect, ""),
         (robots, "LP", MOVED, Shown::Away, ""),

@@ -6,10 +6,13 @@ use Rattle.std.proofs.lemmas.Bool.Decides.{Decides-eqb}
 use Rattle.crawl_kinds.specs.declared.event.Event.{Event}
 use Rattle.crawl_kinds.specs.declared.event.Event.TheVariants.{Emit}
 use Rattle.crawl_kinds.specs.Event.{emit_of, finish_of, Emission, Finishing}
-use Rattle.crawl_history.specs.History.{History, is_session, session_finishes, ticket_count, with_event}
+use Rattle.crawl_history.specs.History.{History, history_of, is_session, session_finishes, ticket_count, with_event}
 use Rattle.crawl_history.specs.Tickets.{emits_out, emit_out, is_ended}
 use Rattle.history_steps.specs.ScansStep.{ends_emit, out_by}
 use Rattle.history_steps.proofs.Sessions.{emits_out-with_event}
+use Rattle.frontier_core.specs.Core.{Core, history}
+use Rattle.frontier_core.specs.Emitting.{emission_of, IsHeld}
+use Rattle.frontier_core.specs.declared.emitted.Emitted.{Emitted}
 use Rattle.frontier_memo.proofs.Lists.{filter-all}
 
 -- a ticket that was given is not the next one
@@ -84,3 +87,9 @@ held_still h e ticket m goes other is =
     kept None other x is = refl
     kept (Some c) other x is =
         ap (λ t. not ((c.ticket == t) || false)) ((Decides-eqb x.ticket ticket).0 is) ∙ ap (λ b. not (b || false)) other
+
+pub held_stays :
+    (old new : Core) (e : Event) (one : Emitted) → new.events ≡ old.events ++ e ∷ [] → is_session e ≡ false
+    → IfSome (finish_of e) (λ c. (c.ticket == one.ticket) ≡ false) → IsHeld old one → IsHeld new one
+held_stays old new e one more goes other held =
+    ap (λ (events : List Event). emit_out (history_of events) one.ticket) more ∙ held_still (history old) e one.ticket (emission_of one) goes other held

@@ -1,15 +1,24 @@
 -- The core after seeds.
-use Rattle.std.proofs.Common.{◌≡◌, ℕ, ◌+◌, ◌<◌, Bool, true, List, [], ◌∷◌, length, refl, sym, ◌∙◌, ap, cond}
-use Rattle.std.specs.Prelude.{count_by, filter}
-use Rattle.std.specs.List.{AllByRecursion}
+use Rattle.std.proofs.Common.{◌≡◌, ℕ, ◌+◌, ◌<◌, ◌≤◌, max, Bool, true, false, List, [], ◌∷◌, length, refl, sym, ◌∙◌, ap, subst, cond, arith, nat_le, nat_lt}
+use Rattle.std.specs.Prelude.{All, count_by, filter}
+use Rattle.std.specs.List.{list_all, list_any, AllByRecursion}
+use Rattle.std.proofs.lemmas.Bool.{le-leb, lt-ltb}
+use Rattle.std.proofs.lemmas.List.Elements.{All-head, All-tail}
 use Rattle.std.proofs.lemmas.List.Sums.{length-filter}
 use Rattle.crawl_kinds.specs.declared.event.Event.{Event}
 use Rattle.crawl_kinds.specs.declared.event.Event.TheVariants.{Seeds}
 use Rattle.crawl_kinds.specs.declared.item.Item.{Item}
-use Rattle.crawl_history.specs.History.{History}
+use Rattle.crawl_kinds.specs.Address.{IsUri}
+use Rattle.crawl_kinds.specs.declared.event.TheConstants.{MAX_MS}
+use Rattle.crawl_history.specs.Facts.{Archive}
+use Rattle.crawl_history.specs.History.{History, is_session, last_time}
+use Rattle.crawl_history.specs.Steps.{Legal, Step}
 use Rattle.core_facts.specs.CoreFacts.{Pages}
+use Rattle.core_facts.specs.ValidEvent.{is_add, is_address}
+use Rattle.core_facts.specs.Validity.{ItemsAreValid, ValidIsComputed}
 use Rattle.frontier_core.specs.Answers.{IsSeeded, IsFull}
-use Rattle.frontier_core.specs.Core.{Core, absent_count, history, with_event, next_time, known_count, seed_adds}
+use Rattle.frontier_core.specs.Core.{Core, absent_count, facts, history, with_event, next_time, known_count, seed_adds}
+use Rattle.frontier_core.proofs.Emits.{and_both, in_time, or_left}
 use Rattle.frontier_memo.specs.Fits.{Fits}
 use Rattle.frontier_memo.specs.Laws.{are_new}
 use Rattle.frontier_memo.proofs.Counting.{keys_more}
@@ -38,3 +47,39 @@ pub seeds_counted :
     (core : Core) (list : List (List ℕ)) (adds : List Item) → are_new (history core) adds ≡ true → (time : ℕ)
     → known_count (with_event core (Seeds time list adds)) ≡ known_count core + absent_count core adds
 seeds_counted core list adds fresh time = keys_more core.events (Seeds time list adds) tt fresh
+
+-- ---- the step
+
+by_recursion : {X : Type 0} (P : X → Type 0) (xs : List X) → All P xs → AllByRecursion P xs
+by_recursion P [] all = tt
+by_recursion P (x ∷ xs) all = (All-head P x xs all, by_recursion P xs (All-tail P x xs all))
+
+-- what is a list of addresses is computed as one
+spelled : ItemsAreValid → ValidIsComputed → (list : List (List ℕ)) → AllByRecursion IsUri list → list_all is_address list ≡ true
+spelled made computed [] all = refl
+spelled made computed (uri ∷ list) all =
+    and_both (is_address uri) (list_all is_address list) (computed.address uri (made.address uri all.0)) (spelled made computed list all.1)
+
+-- where there was a session, there are events
+some_event : (events : List Event) → list_any is_session events ≡ true → nat_lt 0 (0 + length events) ≡ true
+some_event [] opened = cc
+some_event (e ∷ events) opened = lt-ltb 0 (0 + length (e ∷ events)) (omega arith)
+
+-- seeds are one step of a legal history
+pub seeds_step :
+    (made : ItemsAreValid) (computed : ValidIsComputed) (pages : Pages) (a : Archive) (core : Core) (list : List (List ℕ)) (adds : List Item) (now : ℕ)
+    → list_any is_session core.events ≡ true → All IsUri list → adds ≡ seed_adds core pages list → are_new (history core) adds ≡ true
+    → list_all is_add adds ≡ true → known_count core + absent_count core adds ≤ core.settings.max_keys → Legal (facts core pages) a core.events
+    → Step (facts core pages) a (history core) (Seeds (next_time core now) list adds)
+seeds_step made computed pages a core list adds now opened all items fresh valid room legal =
+    let earlier : last_time (history core) ≤ MAX_MS = in_time (facts core pages) a core.events legal in
+    let later : next_time core now ≤ MAX_MS = omega (arith, earlier) in
+    record {
+      opened = or_left (nat_lt 0 (0 + length core.events)) false (some_event core.events opened);
+      later = omega arith;
+      in_time = later;
+      valid = and_both _ (list_all is_add adds)
+          (and_both (nat_le (next_time core now) MAX_MS) (list_all is_address list) (le-leb (next_time core now) MAX_MS later) (spelled made computed list (by_recursion IsUri list all))) valid;
+      permits = items;
+      room = subst (λ n. n ≤ core.settings.max_keys) (sym (seeds_counted core list adds fresh (next_time core now))) room;
+    }

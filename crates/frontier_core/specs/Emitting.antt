@@ -2,15 +2,16 @@
 --     IsHeld core one      what was handed out is out
 --     IsOut old new caller now one      it went out, as one event more
 --     Moves old new caller now answer      what an answer does to the core
+--     HeldLaws      that it stays out until its end
 --     IsStep pages a core one, Answers pages a core now answer      the answer is that of the history
-use Rattle.std.specs.Prelude.{◌≡◌, ℕ, ◌+◌, Some}
+use Rattle.std.specs.Prelude.{◌≡◌, ℕ, ◌+◌, ◌==◌, false, [], ◌∷◌, ◌++◌, Some, IfSome}
 use Rattle.crawl_kinds.specs.declared.event.Event.{Event}
 use Rattle.crawl_kinds.specs.declared.event.Event.TheVariants.{Emit}
-use Rattle.crawl_kinds.specs.Event.{Emission}
+use Rattle.crawl_kinds.specs.Event.{Emission, finish_of}
 use Rattle.crawl_history.specs.Counts.{try_number}
 use Rattle.crawl_history.specs.Emission as emission
 use Rattle.crawl_history.specs.Facts.{Archive}
-use Rattle.crawl_history.specs.History.{ticket_count}
+use Rattle.crawl_history.specs.History.{is_session, ticket_count}
 use Rattle.crawl_history.specs.Steps.{Legal, Permits, Step}
 use Rattle.crawl_history.specs.Tickets.{emit_out}
 use Rattle.core_facts.specs.CoreFacts.{Pages}
@@ -60,3 +61,10 @@ abbrev pub Answers : Pages → Archive → Core → ℕ → Answer → Type 0
 Answers pages a core now (answered.Work one) = IsStep pages a core one
 Answers pages a core now (answered.Empty next) = emission.answer (facts core pages) a (history core) (next_time core now) ≡ emission.NotYet next
 Answers pages a core now answered.Over = emission.answer (facts core pages) a (history core) (next_time core now) ≡ emission.Over
+
+-- what follows from the definitions
+pub record HeldLaws : Type 0 where
+  -- what is out stays so through an event that begins no session and ends no such ticket
+  pub stays :
+      (old new : Core) (e : Event) (one : Emitted) → new.events ≡ old.events ++ e ∷ [] → is_session e ≡ false
+      → IfSome (finish_of e) (λ c. (c.ticket == one.ticket) ≡ false) → IsHeld old one → IsHeld new one

@@ -1,5 +1,6 @@
 // An item that is out, and what asking for one answers.
 ghost use Rattle.std.specs.Prelude.{◌≡◌};
+ghost use Rattle.frontier_core.specs.Emitting.{HeldLaws};
 
 use crawl_kinds::{Millis, Work};
 
@@ -53,3 +54,8 @@ pub enum Answer {
     /// Nothing will go any more.
     Over,
 }
+
+/// What is handed out stays out until its end or the next session.
+pub fn held_laws()
+    ensures { HeldLaws }
+{}

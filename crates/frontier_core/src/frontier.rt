@@ -9,7 +9,7 @@ ghost use Rattle.crawl_history.specs.Citations.{cited_end};
 ghost use Rattle.crawl_history.specs.Emission as emission;
 ghost use Rattle.crawl_history.specs.History.{is_session, last_time, ticket_count};
 ghost use Rattle.crawl_history.specs.Places as places;
-ghost use Rattle.crawl_history.specs.Steps.{last_caller};
+ghost use Rattle.crawl_history.specs.Steps.{last_caller, Legal, Step};
 ghost use Rattle.crawl_history.specs.Verdicts as verdicts;
 ghost use Rattle.core_facts.specs.CoreFacts.{Pages};
 ghost use Rattle.core_facts.specs.ValidEvent.{is_add};
@@ -31,6 +31,7 @@ use crate::emitted::{Answer, Emitted};
 use crate::robots::{KeptRobots, kept_after, put_back, verdict};
 use crate::stop::FrontierStop;
 use crate::waiting::queued;
+use core_facts::{items_are_valid, valid_is_computed};
 use crawl_kinds::{
     ClassKey, Copied, Edge, End, Event, Item, Items, Key, MAX_MS, Millis, NoMemory, Place,
     Settings, Uris, Work,
@@ -191,21 +192,27 @@ impl Frontier {
         ensures same { IfOk result (λ adds. (pages : Pages) → adds ≡ core.seed_adds self.now pages list.now) }
         ensures fresh { IfOk result (λ adds. are_new (core.history self.now) adds ≡ true) }
         ensures absent { IfOk result (λ adds. core.absent_count self.now adds ≡ length adds) }
+        ensures valid { IfOk result (λ adds. (pages : Pages) → IsTrue (list_all is_add adds)) }
     {
         seed_adds(alloc, &self.memo.places, &self.scope, list.as_slice())
     }
 
     /// Adds those seeds that the scope takes and whose key is nowhere, each key once, at this moment, in milliseconds. No
-    /// pages are asked, so that the event is the same whatever they are. `Full` tells that more keys would be known than
+    /// pages are asked, so that the event is the same whatever they are: after a legal history it is one step. `Full` tells that more keys would be known than
     /// the job allows.
     pub fn seeds(&mut self, alloc: Global, list: &Uris, now: Millis) -> Result<Event, FrontierStop>
         requires forms { All IsUri list.now }
         requires opened { list_any is_session self.old.events ≡ true }
         ensures ok { IfOk result (λ e. IsSeeded self.old self.new list.now now e) }
         ensures room { IfOk result (λ _. core.known_count self.new ≤ self.old.settings.max_keys) }
+        ensures step { IfOk result (λ e. (pages : Pages) (a : Archive) → Legal (core.facts self.old pages) a self.old.events
+            → Step (core.facts self.old pages) a (core.history self.old) e) }
+        ensures stands { (pages : Pages) (a : Archive) → Stands pages a self.old → Stands pages a self.new }
         ensures full { (known adds : ℕ) → result ≡ Err (FrontierStop.Full known adds) → IsFull self.old list.now known adds }
         ensures err { OnErr result (self.new ≡ self.old) }
     {
+        items_are_valid();
+        valid_is_computed();
         let time = self.next_time(now);
         let adds = self.seed_adds(alloc, list)?;
         self.room_for(adds.as_slice())?;

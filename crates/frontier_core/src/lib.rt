@@ -8,7 +8,7 @@ mod robots;
 mod stop;
 mod waiting;
 
-pub use emitted::{Answer, Emitted};
+pub use emitted::{Answer, Emitted, held_laws};
 pub use frontier::Frontier;
 pub use frontier_memo::FoldFault;
 pub use robots::standing_laws;

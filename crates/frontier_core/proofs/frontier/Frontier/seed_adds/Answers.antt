@@ -35,3 +35,9 @@ returns-clause-absent c =
     (subst (λ (core : Core). AllByRecursion (λ (i : Item). is_absent (place_of (history core) i.key) ≡ true) adds) c.self.view_is
     (absent (history_of c.self.inside.events.items) (λ key. (c.self.invariant.places key).place))))
     c.seed_adds.ensures.absent
+
+pub returns-clause-valid : goal.returns-clause-valid
+returns-clause-valid c =
+    IfOk-weaker c.seed_adds.result _ _
+    (λ adds valid pages. valid c.self.inside.settings pages (history_of c.self.inside.events.items) (λ key. (c.self.invariant.places key).place))
+    c.seed_adds.ensures.valid
