@@ -1,0 +1,5 @@
+pub mod Computed
+pub mod Fitting
+pub mod Heads
+pub mod Held
+pub mod Spots
