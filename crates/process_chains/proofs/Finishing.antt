@@ -22,6 +22,7 @@ use Rattle.process_chains.specs.declared.draft.Draft.{Draft}
 use Rattle.process_chains.specs.declared.draft.Draft.TheVariants as draft
 use Rattle.process_chains.specs.declared.ending.Ending.{Ending}
 use Rattle.process_chains.proofs.Valid.{valid_none, valid_some}
+use Rattle.process_chains.proofs.Uncut.{ends_uncut}
 use Rattle.process_chains.proofs.Suiting.{answered_suits, faulty_suits, headless_suits, unfetched_suits, whole_is_long}
 
 module _ (w : World) (work : Work) (f : Facts) (a : Archive) (same : f.settings ≡ w.settings) where
@@ -102,6 +103,7 @@ module _ {L : Type 0} (of : Ghosts L) (gives : ℕ → Type 0) (settings : Setti
     suits = λ f a body same none. subst (λ (b : Option Body). Suits f a work.tries work.item (end_with ending b) work.verdict) (sym none)
         (suits_none w work f a same ending is.seen is.ends);
     small = small;
+    uncut = ends_uncut w work ending None is.seen is.ends;
     valid = λ first body none fits. subst (λ (b : Option Body). IsEnd (end_with ending b)) (sym (is_none_by body none))
         (valid_none w work ending first small is.seen is.ends);
     reply = tt;
@@ -122,6 +124,7 @@ module _ {L : Type 0} (of : Ghosts L) (gives : ℕ → Type 0) (settings : Setti
       record {
         suits = λ f a body same fits. suits_body w work f a same answer.ending answer.reply is.0.ended.seen body is.0.ended.ends fits;
         small = small;
+        uncut = ends_uncut w work answer.ending (Some answer.reply) is.0.ended.seen is.0.ended.ends;
         valid = λ first body some fits. body_valid w work answer.ending answer.reply is.0.ended.seen first small body is.0.ended.ends some fits;
         reply = known.0;
         status = known.1;

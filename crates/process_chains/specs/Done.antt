@@ -84,8 +84,10 @@ pub record IsDone (d : Done) : Type 0 where
   pub suits :
       (f : Facts) (a : Archive) (body : Option Body) → f.settings ≡ d.settings → IsBodyOf f a d.work.item.uri d.ending d.reply body
       → Suits f a d.work.tries d.work.item (end_with d.ending body) d.work.verdict
-  -- and from the first try on a line of the journal can name it with any body that one can name
+  -- nothing of a response is cut off, and from the first try on a line of the journal can name the end with any body that one
+  -- can name
   pub small : d.work.tries < 2 ^ 32
+  pub uncut : d.ending.notes.cut ≡ None
   pub valid : 1 ≤ d.work.tries → (body : Option Body) → is_some body ≡ is_some d.reply → IfSome body IsBody → IsEnd (end_with d.ending body)
   pub reply : IfSome d.reply (IsReply d.settings.max_response_bytes)
   -- the code is then its status
