@@ -1,19 +1,21 @@
 -- Where links lead: to addresses, over hops. So what an end adds can be spelled.
 use Rattle.std.proofs.Common.{◌≡◌, ℕ, Bool, true, false, ◌||◌, ◌==◌, List, [], ◌∷◌, map, refl, sym, ◌∙◌, ap, subst, Option, Some, None}
-use Rattle.std.specs.Prelude.{All, find, nat_lt, bytes_eq, IsTrue, if◌then◌else◌}
+use Rattle.std.specs.Prelude.{All, find, nat_lt, bytes_eq, IsTrue, option_map, if◌then◌else◌}
+use Rattle.std.specs.BTreeMap.{BTreeMap}
 use Rattle.std.specs.List.{list_all, AllByRecursion}
 use Rattle.std.proofs.lemmas.List.Elements.{All-map, All-weaker, All-contains, All-head, All-tail}
 use Rattle.crawl_kinds.specs.Address.{IsUri}
 use Rattle.crawl_kinds.specs.Text.{is_hop}
 use Rattle.crawl_kinds.specs.declared.item.Item.{Item}
 use Rattle.crawl_kinds.specs.declared.settings.Settings.{Settings}
+use Rattle.crawl_kinds.specs.declared.event.End.{End}
 use Rattle.crawl_kinds.specs.declared.event.Verdict.{Verdict}
 use Rattle.crawl_kinds.specs.Event.{Finishing}
-use Rattle.crawl_history.specs.Adds.{finish_adds, new_items, seed_candidates}
+use Rattle.crawl_history.specs.Adds.{new_items, seed_candidates}
 use Rattle.crawl_history.specs.Codes.{redirect_letter}
 use Rattle.crawl_history.specs.Facts.{Archive, Facts, Link}
 use Rattle.crawl_history.specs.History.{History}
-use Rattle.crawl_history.specs.Robots.{page_links, redirect_count, most_redirects}
+use Rattle.crawl_history.specs.Robots.{page_links, redirect_count, redirect_in, most_redirects}
 use Rattle.scope_spec.specs.Decision.{ScopeRules}
 use Rattle.uri_spec.specs.Surt.{class_text}
 use Rattle.core_facts.specs.CoreFacts.{Pages, facts_with}
@@ -22,7 +24,12 @@ use Rattle.core_facts.specs.Validity.{ItemsAreValid, LeadsOn, ValidIsComputed}
 use Rattle.extract_spec.specs.declared.found.Found.{Found}
 use Rattle.extract_spec.specs.Joining.{IsLink, is_link_letter}
 use Rattle.frontier_adds.specs.Candidates.{found_in, found_redirect, link_of}
-use Rattle.frontier_adds.specs.Shown.{ShowsLinks}
+use Rattle.frontier_adds.specs.KeptAdds.{kept_adds}
+use Rattle.frontier_adds.specs.Shown.{KeepsPlaces, ShowsLinks}
+use Rattle.frontier_adds.proofs.Adding.{adds_same}
+use Rattle.frontier_memo.proofs.Lists.{find-map}
+use Rattle.frontier_memo.specs.declared.known.Known.{Known}
+use Rattle.journal_valid.specs.Items.{IsAdd}
 
 or_left : (a b : Bool) → a ≡ true → (a || b) ≡ true
 or_left true b h = refl
@@ -69,16 +76,41 @@ leads_on f a c links all shown = record {
   redirect = λ came robots status uri is. redirect_leads c.item links all uri (shown.robots came robots status ∙ is);
 }
 
+-- pages that show these links whatever is asked of them
+abbrev pages_of : List Found → Pages
+pages_of links = record { payload = λ block. []; links = λ uri block. map link_of links; fits = λ uri block end. true; next_spot = λ edge c block. record { file = 0; at = 0; len = 0 } }
+
+-- without a block anywhere
+abbrev no_blocks : Archive
+no_blocks spot = []
+
+module _ (s : Settings) (scope : ScopeRules) (links : List Found) where
+  abbrev shown_facts : Facts
+  shown_facts = facts_with s (scope ∷ []) (pages_of links)
+
+  same_redirect : (class : List ℕ) (o : Option Found) → found_in class o ≡ redirect_in shown_facts class (option_map link_of o)
+  same_redirect class None = refl
+  same_redirect class (Some found) = refl
+
+  shown_there : (c : Finishing) → ShowsLinks shown_facts no_blocks c links
+  shown_there c = record {
+    page = λ came page. refl;
+    robots = λ came robots status.
+        ap (λ (o : Option (List ℕ)). if nat_lt (redirect_count c.item) most_redirects then o else None)
+        (same_redirect c.item.class (find (λ l. l.letter == redirect_letter) links)
+        ∙ ap (redirect_in shown_facts c.item.class) (sym (find-map link_of (λ l. l.letter == redirect_letter) links)));
+  }
+
 -- what an end adds can be spelled where its item can
 pub adds_spelled :
-    (made : ItemsAreValid) (computed : ValidIsComputed) (s : Settings) (scope : ScopeRules) (pages : Pages) (a : Archive) (h : History) (c : Finishing)
-    (links : List Found) (verdict : Verdict) (item : Item) (adds : List Item) → All IsLink links → ShowsLinks (facts_with s (scope ∷ []) pages) a c links
-    → c.item ≡ item → IsUri item.uri → adds ≡ finish_adds (facts_with s (scope ∷ []) pages) a h c verdict → is_add item ≡ true → list_all is_add adds ≡ true
-adds_spelled made computed s scope pages a h c links verdict item adds all shown same address is spelled =
-    ap (list_all is_add) is
-    ∙ computed.adds (finish_adds (facts_with s (scope ∷ []) pages) a h c verdict)
-    ((made.made s (scope ∷ []) pages).finish a h c verdict (ap is_add same ∙ spelled) (subst (λ (i : Item). IsUri i.uri) (sym same) address)
-    (leads_on (facts_with s (scope ∷ []) pages) a c links all shown))
+    (made : ItemsAreValid) (s : Settings) (scope : ScopeRules) (h : History) (places : BTreeMap (List ℕ) Known) (keeps : KeepsPlaces h places) (links : List Found)
+    (verdict : Verdict) (item : Item) (end : End) (adds : List Item) → All IsLink links → IsUri item.uri → adds ≡ kept_adds places scope item end links verdict
+    → is_add item ≡ true → AllByRecursion IsAdd adds
+adds_spelled made s scope h places keeps links verdict item end adds all address is spelled =
+    let c : Finishing = record { time = 0; caller = 0; ticket = 0; item = item; end = end; adds = [] } in
+    let shown = shown_there s scope links c in
+    subst (AllByRecursion IsAdd) (sym (is ∙ adds_same s scope (pages_of links) h places keeps no_blocks c links shown item end verdict refl refl))
+    ((made.made s (scope ∷ []) (pages_of links)).finish no_blocks h c verdict spelled address (leads_on (shown_facts s scope links) no_blocks c links all shown))
 
 by_recursion : {X : Type 0} (P : X → Type 0) (xs : List X) → All P xs → AllByRecursion P xs
 by_recursion P [] all = tt

@@ -1,4 +1,5 @@
 pub mod Adding
 pub mod Choosing
+pub mod Fewer
 pub mod Fresh
 pub mod Leading

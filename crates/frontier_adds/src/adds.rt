@@ -1,5 +1,5 @@
 // What seeds and the ends of items add.
-ghost use Rattle.std.specs.Prelude.{◌≡◌, ◌∷◌, [], true, IfOk, IsTrue, All, count_by};
+ghost use Rattle.std.specs.Prelude.{◌≡◌, ◌≤◌, ◌+◌, ◌∷◌, [], true, IfOk, IsTrue, All, count_by, length};
 ghost use Rattle.std.specs.List.{list_all, AllByRecursion};
 ghost use Rattle.crawl_kinds.specs.Address.{IsUri};
 ghost use Rattle.crawl_kinds.specs.Event.{Finishing};
@@ -11,6 +11,7 @@ ghost use Rattle.crawl_history.specs.Places.{place_of, is_absent};
 ghost use Rattle.core_facts.specs.CoreFacts.{Pages, facts_with};
 ghost use Rattle.core_facts.specs.ValidEvent.{is_add};
 ghost use Rattle.extract_spec.specs.Joining.{IsLink};
+ghost use Rattle.journal_valid.specs.Items.{IsAdd};
 ghost use Rattle.frontier_adds.specs.Shown.{KeepsPlaces, ShowsLinks};
 ghost use Rattle.frontier_memo.specs.Laws.{are_new};
 
@@ -47,8 +48,8 @@ pub fn seed_adds(
 
 /// What the end of an item adds, by the verdict on it and with the links of its page: of a page that came those links that
 /// the scope takes and whose keys are nowhere, each key once; of a robots file that came its redirect, and of an item that
-/// needs its robots file that file, each unless it waits. Where a journal can spell the item, it can spell these. It fails for
-/// want of memory alone.
+/// needs its robots file that file, each unless it waits: no more than there are links, or one. Where a journal can spell
+/// the item, it can spell these. It fails for want of memory alone.
 pub fn finish_adds(
     alloc: Global,
     places: &BTreeMap<Key, Known>,
@@ -63,12 +64,11 @@ pub fn finish_adds(
         → c.item ≡ work.now.item → c.end ≡ end.now → ShowsLinks (facts_with s (scope.now ∷ []) pages) a c links.now
         → adds ≡ history_adds.finish_adds (facts_with s (scope.now ∷ []) pages) a h c work.now.verdict) }
     ensures fresh { IfOk result (λ adds. (h : History) → KeepsPlaces h places.now → are_new h adds ≡ true) }
-    ensures valid { IfOk result (λ adds. (s : settings_type.Settings) (pages : Pages) (a : Archive) (h : History) (c : Finishing) → KeepsPlaces h places.now
-        → c.item ≡ work.now.item → c.end ≡ end.now → ShowsLinks (facts_with s (scope.now ∷ []) pages) a c links.now
-        → IsTrue (is_add work.now.item) → IsTrue (list_all is_add adds)) }
+    ensures few { IfOk result (λ adds. length adds ≤ length links.now + 1) }
+    ensures valid { IfOk result (λ adds. (s : settings_type.Settings) (h : History) → KeepsPlaces h places.now
+        → IsTrue (is_add work.now.item) → AllByRecursion IsAdd adds) }
 {
     items_are_valid();
-    valid_is_computed();
     kept_adds(alloc, places, scope, &work.item, work.verdict, end, links)
 }
 

@@ -44,6 +44,7 @@ use Rattle.frontier_core.specs.Emitting.{emit_event, IsStep}
 use Rattle.frontier_core.specs.declared.emitted.Emitted.{Emitted}
 use Rattle.frontier_memo.specs.declared.known.Waiting.{Waiting}
 use Rattle.frontier_core.specs.Core.{Core, facts, history, next_time}
+use Rattle.frontier_core.proofs.Added.{numbered, of_last}
 use Rattle.frontier_memo.proofs.Counting.{keys_more}
 use Rattle.frontier_memo.proofs.Lists.{all-append}
 
@@ -88,31 +89,18 @@ adds_valid (Seeds time list adds) valid = valid_adds adds (and_right _ _ valid)
 adds_valid (Emit time caller ticket verdict item) valid = tt
 adds_valid (Finish time caller ticket item end adds) valid = valid_adds adds (and_right _ _ valid)
 
-numbered : (n : ℕ) (adds : List Item) → AllByRecursion (λ i. is_add i ≡ true) adds → AllByRecursion (λ x. is_add x.item ≡ true) (adds_from n adds)
-numbered n [] all = tt
-numbered n (x ∷ adds) all = (all.0, numbered (n + 1) adds all.1)
-
-last_valid : (key : List ℕ) (adds : List Add) (item : Item) → AllByRecursion (λ x. is_add x.item ≡ true) adds → last_of (λ x. item_at key x.item) adds ≡ Some item → is_add item ≡ true
-last_valid key [] item all e = cc
-last_valid key (x ∷ adds) item all e = by_last (last_of (λ x. item_at key x.item) adds) (has_key key x.item) e (last_valid key adds item all.1)
-  where
-    by_last : (o : Option Item) (b : Bool) → option_or o (if b then Some x.item else None) ≡ Some item → (o ≡ Some item → is_add item ≡ true) → is_add item ≡ true
-    by_last (Some y) b e more = more e
-    by_last None true e more = let same : x.item ≡ item = cc in subst (λ (i : Item). is_add i ≡ true) same all.0
-    by_last None false e more = cc
-
 module _ (pages : Pages) (a : Archive) (core : Core) (legal : Legal (facts core pages) a core.events) where
   all_valid : AllByRecursion (λ x. is_add x.item ≡ true) (all_adds (history core))
   all_valid =
       legal_keeps (facts core pages) a (λ h. AllByRecursion (λ x. is_add x.item ≡ true) (all_adds h))
       (λ h e before step.
       subst (AllByRecursion (λ x. is_add x.item ≡ true)) (sym (all_adds-with_event h e))
-      (all-append (λ x. is_add x.item ≡ true) (all_adds h) (adds_from (ordinal_count h + 1) (adds_of e)) before (numbered (ordinal_count h + 1) (adds_of e) (adds_valid e step.valid))))
+      (all-append (λ x. is_add x.item ≡ true) (all_adds h) (adds_from (ordinal_count h + 1) (adds_of e)) before (numbered (λ i. is_add i ≡ true) (ordinal_count h + 1) (adds_of e) (adds_valid e step.valid))))
       core.events tt legal
 
   -- the item with which a key was added last
   pub added_add : (key : List ℕ) (item : Item) → last_added (history core) key ≡ Some item → is_add item ≡ true
-  added_add key item added = last_valid key (all_adds (history core)) item all_valid added
+  added_add key item added = of_last (λ i. is_add i ≡ true) key (all_adds (history core)) item all_valid added
 
   added_valid : (key : List ℕ) (item : Item) → last_added (history core) key ≡ Some item → is_item item ≡ true
   added_valid key item added = and_left (is_item item) _ (added_add key item added)

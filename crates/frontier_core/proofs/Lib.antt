@@ -1,3 +1,4 @@
+pub mod Added
 pub mod Deciding
 pub mod Emits
 pub mod Finishes
@@ -9,4 +10,5 @@ pub mod Ordering
 pub mod Permuting
 pub mod Seeded
 pub mod Standing
+pub mod Valid
 pub mod Waking

@@ -1,12 +1,14 @@
 -- What an emit answers and makes.
 --     IsHeld core one      what was handed out is out
 --     IsOut old new caller now one      it went out, as one event more
+--     IsValidAnswer answer      what was handed out can be spelled
 --     Moves old new caller now answer      what an answer does to the core
 --     HeldLaws      that it stays out until its end
 --     IsStep pages a core one, Answers pages a core now answer      the answer is that of the history
-use Rattle.std.specs.Prelude.{◌≡◌, ℕ, ◌+◌, ◌==◌, false, [], ◌∷◌, ◌++◌, Some, IfSome}
+use Rattle.std.specs.Prelude.{◌≡◌, ◌≤◌, ℕ, ◌+◌, ◌==◌, ◌&&◌, false, [], ◌∷◌, ◌++◌, Some, is_none, IfSome, ⊤}
 use Rattle.crawl_kinds.specs.declared.event.Event.{Event}
 use Rattle.crawl_kinds.specs.declared.event.Event.TheVariants.{Emit}
+use Rattle.crawl_kinds.specs.declared.event.Verdict.TheVariants.{Allowed}
 use Rattle.crawl_kinds.specs.Event.{Emission, finish_of}
 use Rattle.crawl_history.specs.Counts.{try_number}
 use Rattle.crawl_history.specs.Emission as emission
@@ -14,12 +16,13 @@ use Rattle.crawl_history.specs.Facts.{Archive}
 use Rattle.crawl_history.specs.History.{is_session, ticket_count}
 use Rattle.crawl_history.specs.Steps.{Legal, Permits, Step}
 use Rattle.crawl_history.specs.Tickets.{emit_out}
-use Rattle.core_facts.specs.CoreFacts.{Pages}
+use Rattle.core_facts.specs.CoreFacts.{Pages, is_secure}
 use Rattle.frontier_core.specs.Core.{Core, history, facts, next_time, with_event}
 use Rattle.frontier_core.specs.declared.emitted.Answer.{Answer}
 use Rattle.frontier_core.specs.declared.emitted.Answer.TheVariants as answered
 use Rattle.frontier_core.specs.declared.emitted.Emitted.{Emitted}
 use Rattle.frontier_memo.specs.Fits.{Fits}
+use Rattle.journal_valid.specs.Valid.{IsEvent}
 
 -- the event of what was handed out
 abbrev pub emit_event : Emitted → Event
@@ -42,6 +45,15 @@ pub record IsOut (old new : Core) (caller now : ℕ) (one : Emitted) : Type 0 wh
   pub asked_by : one.caller ≡ caller
   pub ticket : one.ticket ≡ ticket_count (history old) + 1
   pub held : IsHeld new one
+  -- tries are counted from 1, and what is allowed is not of https, or has a proxy
+  pub tries : 1 ≤ one.work.tries
+  pub allowed : one.work.verdict ≡ Allowed → (is_secure one.work.item.uri && is_none old.settings.proxy) ≡ false
+
+-- the event of what was handed out is valid
+abbrev pub IsValidAnswer : Answer → Type 0
+IsValidAnswer (answered.Work one) = IsEvent (emit_event one)
+IsValidAnswer (answered.Empty next) = ⊤
+IsValidAnswer answered.Over = ⊤
 
 -- without an item nothing changes
 abbrev pub Moves : Core → Core → ℕ → ℕ → Answer → Type 0

@@ -1,5 +1,5 @@
 // Which of what waits goes next.
-ghost use Rattle.std.specs.Prelude.{◌≡◌, ◌*◌, ◌+◌, ◌-◌, ◌/◌, unwrap_or, ◌<◌, max, ◌&&◌, ◌||◌, not, ℕ, List, None, if◌then◌else◌};
+ghost use Rattle.std.specs.Prelude.{◌≡◌, ◌*◌, ◌+◌, ◌-◌, ◌/◌, unwrap_or, ◌<◌, ◌≤◌, max, ◌&&◌, ◌||◌, not, ℕ, List, None, if◌then◌else◌};
 ghost use Rattle.std.specs.BTreeMap.{IsOrdered, values};
 ghost use Rattle.std.specs.Cmp.Lexicographic.{slice_cmp};
 ghost use Rattle.std.specs.List.{list_any};
@@ -295,7 +295,8 @@ pub fn over(
 
 /// Which try of what waits comes next, counted from 1; in a legal history no more tries are made than the job allows.
 pub fn next_try(settings: &Settings, own: &Waiting) -> u32
-    ensures { (n : ℕ) → own.now.tries ≡ saturated n → n < max settings.now.max_tries 1 → result ≡ n + 1 }
+    ensures next { (n : ℕ) → own.now.tries ≡ saturated n → n < max settings.now.max_tries 1 → result ≡ n + 1 }
+    ensures first { 1 ≤ result }
 {
     let most = settings.max_tries.max(1);
     match u32::try_from(own.tries) {

@@ -1,8 +1,9 @@
 // The core.
-ghost use Rattle.std.specs.Prelude.{◌≡◌, ◌≤◌, ◌<◌, ◌+◌, ℕ, true, [], All, IfOk, IsTrue, OnOk, OnErr, Err, length, option_map};
-ghost use Rattle.std.specs.List.{list_all, list_any};
+ghost use Rattle.std.specs.Prelude.{◌≡◌, ◌≤◌, ◌<◌, ◌+◌, ◌&&◌, ℕ, true, false, [], All, IfOk, IsTrue, OnOk, OnErr, Err, is_none, length, option_map};
+ghost use Rattle.std.specs.List.{AllByRecursion, list_all, list_any};
 ghost use Rattle.crawl_kinds.specs.Address.{IsUri};
 ghost use Rattle.crawl_kinds.specs.Event.{Finishing, adds_of};
+ghost use Rattle.crawl_kinds.specs.declared.event.Verdict.TheVariants.{Allowed};
 ghost use Rattle.crawl_history.specs.Adds as history_adds;
 ghost use Rattle.crawl_history.specs.Facts.{Archive};
 ghost use Rattle.crawl_history.specs.Citations.{cited_end};
@@ -11,14 +12,17 @@ ghost use Rattle.crawl_history.specs.History.{is_session, last_time, ticket_coun
 ghost use Rattle.crawl_history.specs.Places as places;
 ghost use Rattle.crawl_history.specs.Steps.{last_caller, Legal, Step};
 ghost use Rattle.crawl_history.specs.Verdicts as verdicts;
-ghost use Rattle.core_facts.specs.CoreFacts.{Pages};
+ghost use Rattle.core_facts.specs.CoreFacts.{Pages, is_secure};
 ghost use Rattle.core_facts.specs.ValidEvent.{is_add};
 ghost use Rattle.extract_spec.specs.Joining.{IsLink};
 ghost use Rattle.frontier_adds.specs.Shown.{ShowsLinks};
+ghost use Rattle.journal_valid.specs.Ends.{IsEnd};
+ghost use Rattle.journal_valid.specs.Items.{IsAdd};
+ghost use Rattle.journal_valid.specs.Valid.{IsEvent};
 ghost use Rattle.frontier_core.specs.Core as core;
 ghost use Rattle.frontier_core.specs.Answers.{IsSeeded, IsFull};
 ghost use Rattle.frontier_core.specs.Choosing.{answer_by, IsReady};
-ghost use Rattle.frontier_core.specs.Emitting.{emit_event, Answers, IsHeld, Moves};
+ghost use Rattle.frontier_core.specs.Emitting.{emit_event, Answers, IsHeld, IsValidAnswer, Moves};
 ghost use Rattle.frontier_core.specs.Finishing.{finish_by, IsEnded, IsFinished, IsFullFor, Shows};
 ghost use Rattle.frontier_core.specs.Standing.{EndsWith, HasNoRobots, Stands};
 ghost use Rattle.frontier_core.specs.Waiting.{IsWaitingList};
@@ -247,6 +251,7 @@ impl Frontier {
     fn work_of(&self, alloc: Global, item: Item, tries: u32, at: Millis) -> Result<Work, NoMemory>
         ensures verdict { IfOk result (λ work. (pages : Pages) (a : Archive) → Stands pages a self.now
             → work.verdict ≡ verdicts.verdict (core.facts self.now pages) a (core.history self.now) item at) }
+        ensures allowed { IfOk result (λ work. work.verdict ≡ Allowed → (is_secure work.item.uri && is_none self.now.settings.proxy) ≡ false) }
         ensures same { IfOk result (λ work. (work.item ≡ item) × (work.at ≡ at) × (work.tries ≡ tries)) }
     {
         let kept = self.robots.get(&item.class);
@@ -296,8 +301,8 @@ impl Frontier {
         ensures same { IfOk result (λ adds. (pages : Pages) (a : Archive) (c : Finishing) → c.item ≡ work.now.item → c.end ≡ end.now
             → ShowsLinks (core.facts self.now pages) a c links.now → adds ≡ history_adds.finish_adds (core.facts self.now pages) a (core.history self.now) c work.now.verdict) }
         ensures fresh { IfOk result (λ adds. are_new (core.history self.now) adds ≡ true) }
-        ensures valid { IfOk result (λ adds. (pages : Pages) (a : Archive) (c : Finishing) → c.item ≡ work.now.item → c.end ≡ end.now
-            → ShowsLinks (core.facts self.now pages) a c links.now → IsTrue (is_add work.now.item) → IsTrue (list_all is_add adds)) }
+        ensures few { IfOk result (λ adds. length adds ≤ length links.now + 1) }
+        ensures valid { IfOk result (λ adds. IsTrue (is_add work.now.item) → AllByRecursion IsAdd adds) }
     {
         finish_adds(alloc, &self.memo.places, &self.scope, work, end, links)
     }
@@ -333,6 +338,7 @@ impl Frontier {
         ensures moves { IfOk result (Moves self.old self.new caller now) }
         ensures answers { IfOk result (λ answer. (pages : Pages) (a : Archive) → Stands pages a self.old → Answers pages a self.old now answer) }
         ensures stands { (pages : Pages) (a : Archive) → Stands pages a self.old → Stands pages a self.new }
+        ensures valid { AllByRecursion IsEvent self.old.events → IfOk result IsValidAnswer }
         ensures err { OnErr result (self.new ≡ self.old) }
     {
         let at = self.next_time(now);
@@ -370,9 +376,12 @@ impl Frontier {
             → Shows (core.facts self.old pages) a (finish_by self.old emitted end now (adds_of e)) links.now payload.now
             → IsFinished pages a self.old self.new emitted (finish_by self.old emitted end now (adds_of e))) }
         ensures room { IfOk result (λ _. core.known_count self.new ≤ self.old.settings.max_keys) }
+        ensures few { IfOk result (λ e. length (adds_of e) ≤ length links.now + 1) }
+        ensures valid { AllByRecursion IsEvent self.old.events → IsEnd end → IfOk result IsEvent }
         ensures full { (known adds : ℕ) → result ≡ Err (FrontierStop.Full known adds) → IsFullFor self.old emitted end now links.now known adds }
         ensures err { OnErr result (self.new ≡ self.old) }
     {
+        valid_is_computed();
         let time = self.next_time(now);
         let Emitted {
             work,

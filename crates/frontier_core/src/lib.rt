@@ -13,6 +13,3 @@ pub use frontier::Frontier;
 pub use frontier_memo::FoldFault;
 pub use robots::standing_laws;
 pub use stop::FrontierStop;
-
-#[cfg(test)]
-mod tests;

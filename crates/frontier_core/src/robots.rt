@@ -1,5 +1,5 @@
 // What is kept of the robots files of classes, and what that says.
-ghost use Rattle.std.specs.Prelude.{◌≡◌, ◌/◌, ◌==◌, ℕ, List, IfOk, Some, true, bytes_eq, is_some, nat_abs, take, if◌then◌else◌};
+ghost use Rattle.std.specs.Prelude.{◌≡◌, ◌/◌, ◌==◌, ◌&&◌, ℕ, List, IfOk, Some, true, false, bytes_eq, is_none, is_some, nat_abs, take, if◌then◌else◌};
 ghost use Rattle.std.specs.BTreeMap.{IsOrdered};
 ghost use Rattle.std.specs.Cmp.Lexicographic.{slice_cmp};
 ghost use Rattle.std.specs.Ordering.{nat_cmp};
@@ -8,6 +8,7 @@ ghost use Rattle.std.specs.Option.{option_copied};
 ghost use Rattle.crawl_kinds.specs.Event.{Finishing};
 ghost use Rattle.crawl_history.specs.Facts.{Archive};
 ghost use Rattle.crawl_kinds.specs.declared.event.Outcome.TheVariants as outcome;
+ghost use Rattle.crawl_kinds.specs.declared.event.Verdict.TheVariants.{Allowed};
 ghost use Rattle.crawl_history.specs.Outcomes as outcomes;
 ghost use Rattle.crawl_history.specs.Robots.{cited_block};
 ghost use Rattle.crawl_history.specs.Verdicts as verdicts;
@@ -99,8 +100,8 @@ fn is_secure(uri: &Uri) -> bool
     up_to(bytes, colon_at(bytes)) == b"https".as_slice()
 }
 
-/// The verdict on an item at a moment, in milliseconds, by what is kept of the robots file of its class. It fails for want
-/// of memory alone.
+/// The verdict on an item at a moment, in milliseconds, by what is kept of the robots file of its class. What is allowed is
+/// not of https, or there is a proxy. It fails for want of memory alone.
 pub fn verdict(
     alloc: Global,
     settings: &Settings,
@@ -108,9 +109,10 @@ pub fn verdict(
     item: &Item,
     at: Millis,
 ) -> Result<Verdict, NoMemory>
-    ensures { IfOk result (λ v. (pages : Pages) (a : Archive) (core : Core) → core.settings ≡ settings.now
+    ensures says { IfOk result (λ v. (pages : Pages) (a : Archive) (core : Core) → core.settings ≡ settings.now
         → robots_at core item.now.class ≡ option_copied kept.entry → Stands pages a core
         → v ≡ verdicts.verdict (facts core pages) a (history core) item.now at) }
+    ensures allowed { IfOk result (λ v. v ≡ Allowed → (is_secure item.now.uri && is_none settings.now.proxy) ≡ false) }
 {
     if is_secure(&item.uri) && settings.proxy.is_none() {
         return Ok(Verdict::Unsupported);

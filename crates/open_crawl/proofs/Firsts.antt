@@ -1,6 +1,6 @@
 -- A core that has a session alone: it has room for its job's seeds, and knows nothing of robots files.
-use Rattle.std.proofs.Common.{◌≡◌, ℕ, ◌≤◌, Bool, true, false, List, [], ◌∷◌, length, cond, refl, sym, ◌∙◌, ap, subst, arith}
-use Rattle.std.specs.Prelude.{filter, if◌then◌else◌, ◌&&◌}
+use Rattle.std.proofs.Common.{◌≡◌, ℕ, ◌≤◌, Bool, true, false, List, [], ◌∷◌, length, refl, sym, ◌∙◌, ap, subst, arith}
+use Rattle.std.specs.Prelude.{filter, ◌&&◌}
 use Rattle.std.specs.List.{list_any}
 use Rattle.std.proofs.lemmas.List.{length-map}
 use Rattle.crawl_kinds.specs.declared.event.Event.{Event}
@@ -10,10 +10,10 @@ use Rattle.crawl_kinds.specs.Event.{finish_of}
 use Rattle.crawl_history.specs.Facts.{Facts, Archive}
 use Rattle.crawl_history.specs.History.{History, history_of, is_session}
 use Rattle.crawl_history.specs.Places.{known_keys, place_of, is_absent}
-use Rattle.crawl_history.specs.Scans.{distinct_from}
 use Rattle.crawl_history.specs.Scope.{is_in_scope}
 use Rattle.crawl_history.specs.Adds.{item_of, new_items, same_key, seed_candidates}
 use Rattle.core_facts.specs.CoreFacts.{Pages}
+use Rattle.frontier_adds.proofs.Fewer.{few_distinct, few_filtered}
 use Rattle.frontier_core.specs.Answers.{IsSeeded, IsFull}
 use Rattle.frontier_core.specs.Core.{Core, facts, history, with_event}
 use Rattle.frontier_core.specs.Standing.{Stands, StandingLaws}
@@ -33,24 +33,6 @@ no_keys (Session time job format) is = refl
 no_keys (Seeds time list adds) is = cc
 no_keys (Emit time caller ticket verdict item) is = cc
 no_keys (Finish time caller ticket item end adds) is = cc
-
-few_distinct : {X : Type 0} (e : X → X → Bool) (seen xs : List X) → length (distinct_from e seen xs) ≤ length xs
-few_distinct e seen [] = omega arith
-few_distinct {X} e seen (x ∷ xs) = by_test (list_any (e x) seen) (few_distinct e seen xs) (few_distinct e (x ∷ seen) xs)
-  where
-    by_test :
-        (b : Bool) → length (distinct_from e seen xs) ≤ length xs → length (distinct_from e (x ∷ seen) xs) ≤ length xs
-        → length (if b then distinct_from e seen xs else x ∷ distinct_from e (x ∷ seen) xs) ≤ length (x ∷ xs)
-    by_test true known new = omega arith
-    by_test false known new = omega arith
-
-few_filtered : {X : Type 0} (p : X → Bool) (xs : List X) → length (filter p xs) ≤ length xs
-few_filtered p [] = omega arith
-few_filtered {X} p (x ∷ xs) = by_test (p x) (few_filtered p xs)
-  where
-    by_test : (b : Bool) → length (filter p xs) ≤ length xs → length (cond b (x ∷ filter p xs) (filter p xs)) ≤ length (x ∷ xs)
-    by_test true rest = omega arith
-    by_test false rest = omega arith
 
 -- seeds add no more items than they are
 pub few_added : (f : Facts) (h : History) (uris : List (List ℕ)) → length (new_items f h (seed_candidates f uris)) ≤ length uris

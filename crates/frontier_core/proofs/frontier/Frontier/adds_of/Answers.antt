@@ -1,13 +1,10 @@
 use Rattle.std.proofs.Common.{◌≡◌, true, ap, subst, ◌∙◌}
-use Rattle.std.specs.Prelude.{IsTrue}
-use Rattle.std.specs.List.{list_all}
 use Rattle.std.proofs.lemmas.Result.{IfOk-weaker}
 use Rattle.crawl_kinds.specs.Event.{Finishing}
 use Rattle.crawl_history.specs.Adds.{finish_adds}
 use Rattle.crawl_history.specs.Facts.{Archive}
 use Rattle.crawl_history.specs.History.{history_of}
 use Rattle.core_facts.specs.CoreFacts.{Pages}
-use Rattle.core_facts.specs.ValidEvent.{is_add}
 use Rattle.frontier_adds.specs.Shown.{ShowsLinks}
 use Rattle.frontier_memo.specs.Laws.{are_new}
 use Rattle.frontier_core.specs.Core.{Core, facts, history}
@@ -35,13 +32,6 @@ returns-clause-fresh c =
 
 pub returns-clause-valid : goal.returns-clause-valid
 returns-clause-valid c =
-    let own : Core = record { settings = c.self.inside.settings; scope = c.self.inside.scope; events = c.self.inside.events.items; robots = c.self.inside.robots.entries } in
     IfOk-weaker c.finish_adds.result _ _
-    (λ adds valid.
-    subst
-    (λ (core : Core).
-    (pages : Pages) (a : Archive) (end : Finishing) → end.item ≡ c.args.work.now.item → end.end ≡ c.args.end.now
-    → ShowsLinks (facts core pages) a end c.args.links.now → IsTrue (is_add c.args.work.now.item) → IsTrue (list_all is_add adds))
-    c.self.view_is
-    (λ pages a end item ends shown spelled. valid c.self.inside.settings pages a (history own) end (λ key. (c.self.invariant.places key).place) item ends shown spelled))
+    (λ adds valid spelled. valid c.self.inside.settings (history_of c.self.inside.events.items) (λ key. (c.self.invariant.places key).place) spelled)
     c.finish_adds.ensures.valid

@@ -13,6 +13,9 @@ use Rattle.frontier_core.specs.Standing.{EndsWith}
 use Rattle.frontier_core.specs.declared.stop.FrontierStop.{FrontierStop}
 use Rattle.frontier_core.proofs.Finishes.{finish_counted, finish_fits, finish_step}
 use Rattle.frontier_core.proofs.Standing.{stands_ended}
+use Rattle.frontier_core.proofs.Valid.{finish_valid, held_add}
+use Rattle.journal_valid.specs.Items.{IsAdd}
+use Rattle.journal_valid.specs.Valid.{IsEvent}
 use Rattle.frontier_core.proofs.frontier.Frontier.finish.Goals as goal
 
 pub returns-in_err-room_for-clause-full : goal.returns-in_err-room_for-clause-full
@@ -68,7 +71,7 @@ returns-clause-finished c pages a shown =
     record {
       adds = same;
       step = finish_step core c.args.emitted c.requires.held outs c.args.end c.args.now c.in_ok-adds.adds c.in_ok-adds.ensures.fresh pages a same
-          (c.in_ok-adds.ensures.valid pages a own refl refl shown.found) room;
+          (λ spelled. c.valid_is_computed.ensures.adds c.in_ok-adds.adds (c.in_ok-adds.ensures.valid spelled)) room;
       stands = stands_ended pages a core c.end.new.self own (finish_event own) c.in_ok-kept.kept refl refl
           (c.in_ok-kept.ensures pages a core own (ap (λ (core : Core). core.settings.agent) (sym c.self.view_is)) refl (sym c.next_time-time.ensures) refl shown.text) ends;
     }
@@ -85,3 +88,14 @@ returns-clause-room c =
     ∙ finish_counted core c.args.emitted c.requires.held outs c.args.end c.args.now c.in_ok-adds.adds c.in_ok-adds.ensures.fresh in
     subst (λ n. n ≤ core.settings.max_keys) (sym grows)
     (subst (λ (items : List Item). known_count core + absent_count core items ≤ core.settings.max_keys) c.as_slice.ensures c.in_ok-room_for.ensures.ok)
+
+pub returns-clause-valid : goal.returns-clause-valid
+returns-clause-valid c valid ends =
+    let core : Core = c.args.self.now in
+    let own : Finishing = finish_by core c.args.emitted c.args.end c.args.now c.in_ok-adds.adds in
+    let timed : Finish c.next_time-time.result c.args.emitted.caller c.args.emitted.ticket c.args.emitted.work.item c.args.end c.in_ok-adds.adds ≡ finish_event own =
+    ap (λ t. Finish t c.args.emitted.caller c.args.emitted.ticket c.args.emitted.work.item c.args.end c.in_ok-adds.adds) c.next_time-time.ensures in
+    let outs : OutsStand (history core) = subst (λ (core : Core). OutsStand (history core)) c.self.view_is c.self.invariant.outs in
+    let add : IsAdd c.args.emitted.work.item = held_add core valid c.args.emitted c.requires.held outs in
+    subst IsEvent (sym timed)
+    (finish_valid core valid c.args.emitted c.args.end c.args.now c.in_ok-adds.adds c.requires.held ends (c.in_ok-adds.ensures.valid (c.valid_is_computed.ensures.add c.args.emitted.work.item add)))

@@ -1,0 +1,9 @@
+//! Tests of the core of a crawl, driven by its calls. They stand in a crate of their own, so that the core is proved once.
+#![tactic(auto)]
+
+#[cfg(test)]
+mod jobs;
+#[cfg(test)]
+mod moves;
+#[cfg(test)]
+mod tests;
