@@ -1,0 +1,4 @@
+pub mod Bridge
+pub mod Going
+pub mod Seen
+pub mod Supported
