@@ -1,0 +1,5 @@
+pub mod Bodies
+pub mod Digests
+pub mod Fetches
+pub mod MediaTypes
+pub mod Turns
