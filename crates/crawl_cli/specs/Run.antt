@@ -11,10 +11,11 @@ use Rattle.crawl_traits.specs.declared.volume.Volume as volumes
 use Rattle.program_status.specs.Gains.{Gains}
 use Rattle.program_status.specs.Status.{status_text}
 use Rattle.program_status.specs.declared.status.Status.{Status}
-use Rattle.program_status.specs.declared.status.Status.TheVariants.{Done, Usage}
+use Rattle.program_status.specs.declared.status.Status.TheVariants.{Done, Full, Usage}
+use Rattle.process_chains.specs.Ends.{world}
 use Rattle.job_commands.specs.Causes.{IsCaused}
 use Rattle.job_commands.specs.Statuses.{IsRefusal, SaysText}
-use Rattle.crawl_cli.specs.Crawl.{IsReached, Recorded, crawl_causes}
+use Rattle.crawl_cli.specs.Crawl.{IsDone, IsFull, IsReached, crawl_causes}
 
 -- the first word is `crawl`
 abbrev pub is_crawl : List (List ℕ) → Bool
@@ -31,13 +32,22 @@ module _ {V W L : Type 0} (v : volumes.Ghosts V) (o : sinks.Ghosts W) (l : links
   abbrev pub GainsLineAfter : List ℕ → Type 0
   GainsLineAfter lines = Gains (Rose (o.faults out) (o.faults out_left)) (o.written out ++ lines) (o.written out_left) (status_text status)
 
+  -- Full comes exactly by its two numbers; only the line of the status stands behind the lines of what was recorded
+  abbrev pub IsFullHere : ℕ → ℕ → Type 0
+  IsFullHere known adds = IsTrue (v.tells volume) → IsTrue (o.tells out) → IsReached (v.contents volume)
+      → (shown : List ℕ)
+      × IsFull (λ settings. world l gives settings link link_left) gives (v.contents volume) (v.contents volume_left) (o.written out) shown (l.exchanges link) (l.exchanges link_left) known adds
+      × Gains (Rose (o.faults out) (o.faults out_left)) shown (o.written out_left) (status_text (Full known adds))
+
   -- what `crawl` promises
   pub record Crawls : Type 0 where
     -- Usage comes exactly where another word follows
     pub usage : (more ≡ [] → (i : ℕ) → status ≢ Usage i) × (more ≢ [] → status ≡ Usage 1)
+    -- nothing will go any more, and what went is recorded
     pub done : status ≡ Done → IsTrue (v.tells volume) → IsTrue (o.tells out) → IsReached (v.contents volume)
-        → Recorded gives (l.faults link) (l.faults link_left) (l.tells link) (v.contents volume) (v.contents volume_left) (o.written out) (o.written out_left) (l.exchanges link) (l.exchanges link_left)
-    pub caused : more ≡ [] → status ≢ Done → IsCaused (crawl_causes (Rose (v.faults volume) (v.faults volume_left)) (Rose (o.faults out) (o.faults out_left)) (v.tells volume) (v.contents volume)) status
+        → IsDone (λ settings. world l gives settings link link_left) gives (v.contents volume) (v.contents volume_left) (o.written out) (o.written out_left) (l.exchanges link) (l.exchanges link_left)
+    pub caused : more ≡ [] → status ≢ Done
+        → IsCaused (crawl_causes (Rose (v.faults volume) (v.faults volume_left)) (Rose (o.faults out) (o.faults out_left)) IsFullHere (v.tells volume) (v.contents volume)) status
     -- a refusal changes no byte
     pub kept : IsRefusal status → v.contents volume_left ≡ v.contents volume
     -- the status's line stands behind lines of visits, and behind none where the call was refused

@@ -37,6 +37,7 @@ fn main(rt: HostRuntime) -> io::Result<ExitCode> {
     let mut links = Vec::new(alloc);
     links.push(MemLink::new(alloc, Site::new(alloc), Vec::new(alloc)))?;
     let ran = run(
+        &rt,
         alloc,
         &words,
         &mut source,

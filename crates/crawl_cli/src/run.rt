@@ -10,6 +10,7 @@ use crawl_traits::{Clock, Link, Sink, Source, Volume};
 use job_commands::tend;
 use program_status::Status;
 use std::alloc::Global;
+use std::sync::Wait;
 
 /// What a call leaves: how it ended, and the volume, the output and the links that were handed in.
 #[derive(Drop)]
@@ -26,11 +27,13 @@ fn is_crawl(word: &String) -> bool
     word.as_str() == "crawl"
 }
 
-/// Does what the words say. `crawl` opens the crawl of the job that the volume keeps, and visits each item that waits once, in
-/// the order of its queues, over the first link: a whole response is recorded in the first WARC file, the item's events in the
-/// journal, and `CODE URI` is written to the output. It reads no source. All other words are handed to `tend`. It takes 1 to 32
-/// links, and gives them back in order.
-pub fn run<V: Volume, S: Source, W: Sink, L: Link, C: Clock>(
+/// Does what the words say. `crawl` opens the crawl of the job that the volume keeps, and goes on with it over the first link
+/// until it is over: it hands out one item after another, no host before its time, fetches what robots files allow, records a
+/// whole response in the WARC file and the item's events in the journal, and writes `CODE URI` to the output. While nothing may
+/// go it rests by the clock, for ever where that stands still. It reads no source. All other words are handed to `tend`. It
+/// takes 1 to 32 links, and gives them back in order.
+pub fn run<R: Wait, V: Volume, S: Source, W: Sink, L: Link, C: Clock>(
+    rt: &R,
     alloc: Global,
     words: &[String],
     job: &mut S,
@@ -49,7 +52,7 @@ pub fn run<V: Volume, S: Source, W: Sink, L: Link, C: Clock>(
     if let [word, more @ ..] = words {
         if is_crawl(word) {
             let link = &mut links[0];
-            let status = crawl_command(alloc, more, &mut volume, &mut out, link, clock);
+            let status = crawl_command(rt, alloc, more, &mut volume, &mut out, link, clock);
             return Ran {
                 status,
                 volume,

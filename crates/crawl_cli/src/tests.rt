@@ -4,6 +4,7 @@ use crawl_memory::{MemClock, MemLink, MemSink, MemSource, MemVolume, Site};
 use crawl_traits::{FileId, Volume};
 use std::alloc::Global;
 use std::process::Abort;
+use std::sync::Wait;
 use std::test::Fail;
 
 const START: u64 = 1_700_000_000_000;
@@ -46,7 +47,12 @@ fn failing(alloc: Global, call: u64) -> Result<Vec<u64>, Fail> {
 }
 
 /// What a call leaves of a volume.
-fn left(alloc: Global, call: Call<'_>, volume: MemVolume) -> Result<Left, Fail> {
+fn left<R: Wait + Abort + Alloc<A = Global>>(
+    rt: &R,
+    call: Call<'_>,
+    volume: MemVolume,
+) -> Result<Left, Fail> {
+    let alloc = rt.alloc();
     let mut words = Vec::new(alloc);
     for word in call.words {
         words.push(String::from_str(alloc, word)?)?;
@@ -57,7 +63,7 @@ fn left(alloc: Global, call: Call<'_>, volume: MemVolume) -> Result<Left, Fail> 
     let mut links = Vec::new(alloc);
     links.push(MemLink::new(alloc, Site::new(alloc), Vec::new(alloc)))?;
     let clock = MemClock::at(START);
-    Ok(run(alloc, &words, &mut source, volume, sink, links, &clock))
+    Ok(run(rt, alloc, &words, &mut source, volume, sink, links, &clock))
 }
 
 /// It ended with this number, and printed this.
@@ -68,9 +74,9 @@ fn ended(rt: &impl Abort, left: &Left, code: u8, out: &str) -> Result<(), Fail> 
 }
 
 /// A volume on which `init` was called with a job's text.
-fn kept(alloc: Global, text: &str) -> Result<MemVolume, Fail> {
+fn kept<R: Wait + Abort + Alloc<A = Global>>(rt: &R, text: &str) -> Result<MemVolume, Fail> {
     let init = faultless(&["init"], text.as_bytes());
-    Ok(left(alloc, init, MemVolume::new(alloc))?.volume)
+    Ok(left(rt, init, MemVolume::new(rt.alloc()))?.volume)
 }
 
 /// A volume with these files.
@@ -85,13 +91,13 @@ fn volume_of(alloc: Global, job: &[u8], journal: &[u8]) -> Result<MemVolume, Fai
 fn a_job_is_kept_once(rt: HostRuntime) -> Result<(), Fail> {
     let alloc = rt.alloc();
     let init = faultless(&["init"], JOB.as_bytes());
-    let first = left(alloc, init, MemVolume::new(alloc))?;
+    let first = left(&rt, init, MemVolume::new(alloc))?;
     ended(&rt, &first, 0, "")?;
     let job = first.volume.bytes(FileId::Job);
     assert_eq!(rt; job.len(), 127);
     assert!(rt; job.starts_with(b"+00000074\nname = "));
     assert_eq!(rt; first.volume.bytes(FileId::Journal(0)), JOURNAL.as_bytes());
-    let second = left(alloc, init, first.volume)?;
+    let second = left(&rt, init, first.volume)?;
     ended(&rt, &second, 9, "job there\n")?;
     assert_eq!(rt; second.volume.bytes(FileId::Job).len(), 127);
     assert_eq!(rt; second.volume.bytes(FileId::Journal(0)), JOURNAL.as_bytes());
@@ -111,7 +117,7 @@ fn other_words_and_volumes_without_a_job_are_refused(rt: HostRuntime) -> Result<
         (&["enqueue"], 8, "no job\n"),
     ];
     for (words, code, out) in refused {
-        let left = left(alloc, faultless(words, b"+"), MemVolume::new(alloc))?;
+        let left = left(&rt, faultless(words, b"+"), MemVolume::new(alloc))?;
         ended(&rt, &left, code, out)?;
         assert_eq!(rt; left.volume.bytes(FileId::Journal(0)).len(), 0);
     }
@@ -119,8 +125,12 @@ fn other_words_and_volumes_without_a_job_are_refused(rt: HostRuntime) -> Result<
 }
 
 /// A text that is refused, and its line.
-fn refuses(rt: &impl Abort, alloc: Global, text: &[u8], line: &str) -> Result<(), Fail> {
-    let left = left(alloc, faultless(&["init"], text), MemVolume::new(alloc))?;
+fn refuses<R: Wait + Abort + Alloc<A = Global>>(
+    rt: &R,
+    text: &[u8],
+    line: &str,
+) -> Result<(), Fail> {
+    let left = left(rt, faultless(&["init"], text), MemVolume::new(rt.alloc()))?;
     ended(rt, &left, 2, line)?;
     assert_eq!(rt; left.volume.bytes(FileId::Job).len(), 0);
     assert_eq!(rt; left.volume.bytes(FileId::Journal(0)).len(), 0);
@@ -144,14 +154,14 @@ fn a_text_that_is_no_job_changes_nothing(rt: HostRuntime) -> Result<(), Fail> {
         ("max_keys = 1\n", "job refused: OutOfRange seeds\n"),
         ("=", "job refused: NotToml\n"),
     ] {
-        refuses(&rt, alloc, &job_with(alloc, front)?, line)?;
+        refuses(&rt, &job_with(alloc, front)?, line)?;
     }
     let mut pattern = JOB.as_bytes().to_vec(alloc)?;
     pattern.extend_from_slice(rule.as_bytes())?;
-    refuses(&rt, alloc, &pattern, "job refused: BadPattern 0\n")?;
-    refuses(&rt, alloc, b"", "job refused: Missing name\n")?;
+    refuses(&rt, &pattern, "job refused: BadPattern 0\n")?;
+    refuses(&rt, b"", "job refused: Missing name\n")?;
     let long = vec![in alloc; b'\n'; 1_048_577]?;
-    refuses(&rt, alloc, &long, "job refused: TooLong\n")
+    refuses(&rt, &long, "job refused: TooLong\n")
 }
 
 #[test]
@@ -159,16 +169,16 @@ fn seeds_are_added_within_the_scope_and_shown(rt: HostRuntime) -> Result<(), Fai
     let alloc = rt.alloc();
     let lines = faultless(&["enqueue"], b"http://a.test/new\n# note\nhttp://c.test/\n");
     let queue = "test,a, http://a.test/\ntest,a, http://a.test/new\ntest,b, http://b.test/x\n";
-    let more = left(alloc, lines, kept(alloc, JOB)?)?;
+    let more = left(&rt, lines, kept(&rt, JOB)?)?;
     ended(&rt, &more, 0, queue)?;
-    let none = left(alloc, faultless(&["enqueue"], b""), more.volume)?;
+    let none = left(&rt, faultless(&["enqueue"], b""), more.volume)?;
     ended(&rt, &none, 0, queue)?;
     for (lines, line) in [
         ("+http://a.test/\n", "job refused: BadSeed 1\n"),
         ("http://a.test/y\nhttp://\n", "job refused: BadSeed 2\n"),
     ] {
-        let volume = kept(alloc, JOB)?;
-        let refused = left(alloc, faultless(&["enqueue"], lines.as_bytes()), volume)?;
+        let volume = kept(&rt, JOB)?;
+        let refused = left(&rt, faultless(&["enqueue"], lines.as_bytes()), volume)?;
         ended(&rt, &refused, 2, line)?;
         assert_eq!(rt;
             refused.volume.bytes(FileId::Journal(0)),
@@ -182,10 +192,10 @@ fn seeds_are_added_within_the_scope_and_shown(rt: HostRuntime) -> Result<(), Fai
 fn a_seed_past_the_greatest_number_of_keys_is_left_out(rt: HostRuntime) -> Result<(), Fail> {
     let alloc = rt.alloc();
     let text = job_with(alloc, "max_keys = 2\n")?;
-    let init = left(alloc, faultless(&["init"], &text), MemVolume::new(alloc))?;
+    let init = left(&rt, faultless(&["init"], &text), MemVolume::new(alloc))?;
     ended(&rt, &init, 0, "")?;
     let one_more = faultless(&["enqueue"], b"http://a.test/new\n");
-    let full = left(alloc, one_more, init.volume)?;
+    let full = left(&rt, one_more, init.volume)?;
     ended(&rt, &full, 6, "full: 2 known, 1 new\n")?;
     let journal = full.volume.bytes(FileId::Journal(0));
     assert!(rt; journal.ends_with(b"\n+0000001a\nS+ 1700000000000 sample 1\n-"));
@@ -198,7 +208,7 @@ type Damage<'a> = (&'a [u8], &'a [u8], &'a str);
 #[test]
 fn files_without_a_reading_are_damaged_at_a_gate(rt: HostRuntime) -> Result<(), Fail> {
     let alloc = rt.alloc();
-    let volume = kept(alloc, JOB)?;
+    let volume = kept(&rt, JOB)?;
     let job = volume.bytes(FileId::Job);
     let other_body = b"+00000003\na=1-".as_slice();
     let ticket =
@@ -218,12 +228,12 @@ fn files_without_a_reading_are_damaged_at_a_gate(rt: HostRuntime) -> Result<(), 
     for (job, journal, line) in damaged {
         for word in ["crawl", "enqueue"] {
             let volume = volume_of(alloc, job, journal)?;
-            ended(&rt, &left(alloc, faultless(&[word], b""), volume)?, 4, line)?;
+            ended(&rt, &left(&rt, faultless(&[word], b""), volume)?, 4, line)?;
         }
     }
     for journal in [b"".as_slice(), b"+"] {
         let opened = left(
-            alloc,
+            &rt,
             faultless(&["enqueue"], b""),
             volume_of(alloc, job, journal)?,
         )?;
@@ -244,7 +254,7 @@ fn a_failing_source_or_output_is_named(rt: HostRuntime) -> Result<(), Fail> {
         source_fault: 1,
         ..faultless(&["init"], JOB.as_bytes())
     };
-    let source = left(alloc, init, MemVolume::new(alloc))?;
+    let source = left(&rt, init, MemVolume::new(alloc))?;
     ended(&rt, &source, 10, "source fault\n")?;
     assert_eq!(rt; source.volume.bytes(FileId::Job).len(), 0);
     let lines = faultless(&["enqueue"], b"http://a.test/new\n");
@@ -252,14 +262,14 @@ fn a_failing_source_or_output_is_named(rt: HostRuntime) -> Result<(), Fail> {
         source_fault: 2,
         ..lines
     };
-    let source = left(alloc, second, kept(alloc, JOB)?)?;
+    let source = left(&rt, second, kept(&rt, JOB)?)?;
     ended(&rt, &source, 10, "source fault\n")?;
     assert_eq!(rt; source.volume.bytes(FileId::Journal(0)), JOURNAL.as_bytes());
     let unshown = Call {
         sink_fault: 1,
         ..lines
     };
-    let sink = left(alloc, unshown, kept(alloc, JOB)?)?;
+    let sink = left(&rt, unshown, kept(&rt, JOB)?)?;
     ended(&rt, &sink, 5, "")?;
     assert!(rt;
         sink.volume
@@ -271,15 +281,20 @@ fn a_failing_source_or_output_is_named(rt: HostRuntime) -> Result<(), Fail> {
 
 /// Calls a command where each call of the volume fails in turn, and then again without a fault, which ends so. Tells how many
 /// calls the command makes.
-fn each_fails(rt: &impl Abort, alloc: Global, second: Call<'_>, codes: &[u8]) -> Result<u64, Fail> {
+fn each_fails<R: Wait + Abort + Alloc<A = Global>>(
+    rt: &R,
+    second: Call<'_>,
+    codes: &[u8],
+) -> Result<u64, Fail> {
+    let alloc = rt.alloc();
     for number in 1..100 {
         let volume = MemVolume::with_faults(alloc, failing(alloc, number)?);
-        let init = left(alloc, faultless(&["init"], JOB.as_bytes()), volume)?;
+        let init = left(rt, faultless(&["init"], JOB.as_bytes()), volume)?;
         if init.status.code() == 0 {
             return Ok(number);
         }
         ended(rt, &init, 3, "volume fault\n")?;
-        let code = left(alloc, second, init.volume)?.status.code();
+        let code = left(rt, second, init.volume)?.status.code();
         assert!(rt; codes.contains(&code), "call {number}");
     }
     Err(Fail::from("no end"))
@@ -289,7 +304,7 @@ fn each_fails(rt: &impl Abort, alloc: Global, second: Call<'_>, codes: &[u8]) ->
 fn a_failing_volume_leaves_no_job_or_all_of_it(rt: HostRuntime) -> Result<(), Fail> {
     let alloc = rt.alloc();
     let again = faultless(&["init"], JOB.as_bytes());
-    assert!(rt; each_fails(&rt, alloc, again, &[0, 9])? > 15);
-    assert!(rt; each_fails(&rt, alloc, faultless(&["enqueue"], b""), &[0, 8])? > 15);
+    assert!(rt; each_fails(&rt, again, &[0, 9])? > 15);
+    assert!(rt; each_fails(&rt, faultless(&["enqueue"], b""), &[0, 8])? > 15);
     Ok(())
 }

@@ -1,12 +1,17 @@
-use Rattle.std.proofs.Common.{◌++◌, [], refl, sym, ◌∙◌, arith}
+use Rattle.std.proofs.Common.{◌≡◌, ℕ, List, ◌++◌, [], refl, sym, ◌∙◌, subst, arith}
+use Rattle.std.specs.Prelude.{IsTrue}
 use Rattle.std.specs.String.{string_bytes}
 use Rattle.std.proofs.lemmas.List.{append-nil}
 use Rattle.crawl_traits.specs.Causes.{Rose}
+use Rattle.crawl_kinds.specs.declared.settings.Settings.{Settings}
+use Rattle.process_chains.specs.Ends.{World, world}
+use Rattle.program_status.specs.Gains.{Gains}
 use Rattle.program_status.specs.Status.{status_text}
-use Rattle.program_status.specs.declared.status.Status.TheVariants.{Usage}
+use Rattle.program_status.specs.declared.status.Status.{Status}
+use Rattle.program_status.specs.declared.status.Status.TheVariants.{Full, Usage}
 use Rattle.job_commands.proofs.Caused.{never_done, never_usage, rose_after, rose_before}
 use Rattle.job_commands.proofs.Said.{gains_from}
-use Rattle.crawl_cli.specs.Crawl.{crawl_causes}
+use Rattle.crawl_cli.specs.Crawl.{IsFull, IsReached, crawl_causes}
 use Rattle.crawl_cli.proofs.Visited.{said_caused}
 use Rattle.crawl_cli.proofs.Words.{no_words, some_words}
 use Rattle.crawl_cli.proofs.crawl.crawl_command.Goals as goal
@@ -28,17 +33,34 @@ pub returns-in-Err : goal.returns-in-Err
 returns-in-Err g c =
     let of = g.V.Volume in
     let o = g.W.Sink in
+    let l = g.L.Link in
+    let gives = g.C.Clock.gives c.args.clock.now in
+    let w : Settings → World = λ settings. world l gives settings c.args.link.now c.crawl_job.new.link in
+    let volume = c.args.volume.now in
+    let left = c.crawl_job.new.volume in
     let old = c.args.out.now in
     let mid = c.crawl_job.new.out in
     let new = c.say-in-Err.new.out in
     let status = c.in-Err.status in
-    let rose = Rose (of.faults c.args.volume.now) (of.faults c.crawl_job.new.volume) in
-    let causes = crawl_causes rose (Rose (o.faults old) (o.faults mid)) (of.tells c.args.volume.now) (of.contents c.args.volume.now) in
+    let rose = Rose (of.faults volume) (of.faults left) in
+    let is_full = λ (shown : List ℕ) (known adds : ℕ). IsFull w gives (of.contents volume) (of.contents left) (o.written old) shown (l.exchanges c.args.link.now) (l.exchanges c.crawl_job.new.link) known adds in
+    let full_then = λ (known adds : ℕ). IsTrue (of.tells volume) → IsTrue (o.tells old) → IsReached (of.contents volume) → is_full (o.written mid) known adds in
+    let full = λ (known adds : ℕ). IsTrue (of.tells volume) → IsTrue (o.tells old) → IsReached (of.contents volume)
+    → (shown : List ℕ) × is_full shown known adds × Gains (Rose (o.faults old) (o.faults new)) shown (o.written new) (status_text (Full known adds)) in
+    let fuller : (known adds : ℕ) → status ≡ Full known adds → full_then known adds → full known adds =
+    λ known adds is then told told_out reached. (
+      o.written mid,
+      then told told_out reached,
+      subst (λ (s : Status). Gains (Rose (o.faults old) (o.faults new)) (o.written mid) (o.written new) (status_text s)) is
+          (gains_from (Rose (o.faults mid) (o.faults new)) (Rose (o.faults old) (o.faults new)) (o.written mid) (o.written mid) (o.written new) (status_text status) refl
+          (rose_before (o.faults old) (o.faults mid) (o.faults new) c.in-Err.ensures.later.1) (c.say-in-Err.ensures.said (c.in-Err.ensures.tells.0 ∙ told_out))),
+    ) in
+    let causes = crawl_causes rose (Rose (o.faults old) (o.faults mid)) full_then (of.tells volume) (of.contents volume) in
     record {
       usage = (λ none. never_usage causes status (λ other. c.in-Err.ensures.caused), λ some. absurd (some (no_words string_bytes c.args.more.now (sym c.if-not-is_empty.false ∙ c.is_empty.ensures))));
       done = λ is. absurd (never_done causes status c.in-Err.ensures.caused is);
-      caused = λ none other. said_caused status rose (Rose (o.faults old) (o.faults mid)) (Rose (o.faults old) (o.faults new)) (of.tells c.args.volume.now) (of.contents c.args.volume.now)
-          (λ x. rose_after (o.faults old) (o.faults mid) (o.faults new) x c.say-in-Err.ensures.later) c.in-Err.ensures.caused;
+      caused = λ none other. said_caused status rose (Rose (o.faults old) (o.faults mid)) (Rose (o.faults old) (o.faults new)) full_then full (of.tells volume) (of.contents volume)
+          (λ x. rose_after (o.faults old) (o.faults mid) (o.faults new) x c.say-in-Err.ensures.later) fuller c.in-Err.ensures.caused;
       kept = c.in-Err.ensures.kept;
       said = λ says told.
           let grown = c.in-Err.ensures.grown told in (
