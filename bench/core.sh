@@ -11,8 +11,12 @@ cd "$(dirname "$0")/../crates/core_bench"
 
 runs=${1:-3}
 limit=60
-rt run -- 100 16 >/dev/null 2>&1
 program=$PWD/out/core_bench
+
+# proved and built, unless it was since the sources changed
+if [ ! -x "$program" ] || [ -n "$(find .. -name out -prune -o -type f \( -name '*.rt' -o -name '*.antt' \) -newer "$program" -print -quit)" ]; then
+    rt run -- 100 16 >/dev/null 2>&1
+fi
 
 # user and system seconds of the best run, which other work on the machine disturbs little: PAGES
 best() {
