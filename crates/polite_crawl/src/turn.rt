@@ -1,5 +1,5 @@
 // One turn of a crawl.
-ghost use Rattle.std.specs.Prelude.{◌≡◌, ◌≢◌, ◌≤◌, ◌++◌, ◌∷◌, ◌&&◌, [], ℕ, List, true, false, is_none, is_some, IsTrue, IfOk, IfSome, Ok, Err, length};
+ghost use Rattle.std.specs.Prelude.{◌≡◌, ◌≢◌, ◌≤◌, ◌++◌, ◌∷◌, ◌&&◌, [], ℕ, List, true, false, is_none, is_some, IsTrue, IfOk, IfSome, Ok, Err, Option, length};
 ghost use Rattle.std.specs.List.{AllByRecursion, list_any};
 ghost use Rattle.crawl_kinds.specs.declared.event.Event.{Event};
 ghost use Rattle.crawl_kinds.specs.declared.event.TheConstants.{MAX_MS as latest};
@@ -18,7 +18,7 @@ ghost use Rattle.process_chains.specs.Ends.{world};
 ghost use Rattle.recover_journal.specs.Rest.{Rests};
 ghost use Rattle.visit_spec.specs.Crawled.{IsOver, IsRefused, Keeps, next_place, warc_file};
 ghost use Rattle.visit_spec.specs.Visits.{Visit};
-ghost use Rattle.polite_crawl.specs.Turns.{IsIdle, IsUnwritten};
+ghost use Rattle.polite_crawl.specs.Turns.{IsIdle, IsNotYet, IsUnwritten};
 
 use crate::why::Why;
 use crawl_kinds::{Edge, End, Millis, NoMemory};
@@ -141,6 +141,7 @@ pub fn take_turn<V: Volume, W: Sink, L: Link, C: Clock>(
     ensures settings { result ≡ Ok Turn.Worked → crawl.new.frontier.settings ≡ crawl.old.frontier.settings }
     ensures shut { result ≢ Err Why.NoMemory → IsTrue (L.tells link.old) → L.connected link.old ≡ false → L.connected link.new ≡ false }
     ensures idle { IsIdle result → (crawl.new ≡ crawl.old) × (volume.new ≡ volume.old) × (out.new ≡ out.old) × (link.new ≡ link.old) }
+    ensures empty { (next : Option ℕ) → result ≡ Ok (Turn.Empty next) → IsNotYet (C.gives clock.now) crawl.old.frontier next }
     ensures over { result ≡ Ok Turn.Over → IsOver (C.gives clock.now) crawl.old.frontier }
     ensures full { (known adds : ℕ) → result ≡ Err (Why.Full known adds)
         → (seen : List Exchange) × IsRefused (world L.Link (C.gives clock.now) crawl.old.frontier.settings link.old link.new) crawl.old.frontier known adds seen

@@ -26,6 +26,16 @@ returns-in-Ok-Over-clause-over g c e =
           (subst (λ (x : Answer). Answers pages a old c.now.result x) is (c.in-Ok-Over.ensures.answers pages a stands));
     }
 
+pub returns-in-Ok-Empty-clause-empty : goal.returns-in-Ok-Empty-clause-empty
+returns-in-Ok-Empty-clause-empty g c next e =
+    let old : Core = c.args.crawl.now.frontier in
+    let is : c.in-Ok-Empty.field-0 ≡ answered.Empty next = cc in
+    record {
+      moment = c.now.result;
+      given = c.now.ensures;
+      waits = λ pages a stands. subst (λ (x : Answer). Answers pages a old c.now.result x) is (c.in-Ok-Empty.ensures.answers pages a stands);
+    }
+
 pub returns-in-Err-Full-clause-full : goal.returns-in-Err-Full-clause-full
 returns-in-Err-Full-clause-full g c known adds e =
     let old : Core = c.args.crawl.now.frontier in
