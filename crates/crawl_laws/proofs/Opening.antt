@@ -1,5 +1,5 @@
 -- What opening adds to a legal history is legal.
-use Rattle.std.proofs.Common.{◌≡◌, ℕ, ◌+◌, ◌≤◌, Bool, true, false, List, [], ◌∷◌, ◌++◌, length, refl, sym, ◌∙◌, ap, subst, arith, append_assoc, add-zero}
+use Rattle.std.proofs.Common.{◌≡◌, ℕ, ◌+◌, ◌≤◌, Bool, true, false, List, [], ◌∷◌, ◌++◌, length, refl, sym, ◌∙◌, ap, subst, arith, add-zero}
 use Rattle.std.specs.Prelude.{All, IsTrue, bytes_eq, map, ◌||◌, nat_lt}
 use Rattle.std.proofs.lemmas.List.{append-nil, length-map}
 use Rattle.crawl_kinds.specs.Address.{IsUri}
@@ -10,12 +10,12 @@ use Rattle.crawl_kinds.specs.declared.item.Item.{Item}
 use Rattle.crawl_history.specs.Facts.{Archive, Facts}
 use Rattle.crawl_history.specs.History.{history_of, last_time}
 use Rattle.crawl_history.specs.Places.{known_keys}
-use Rattle.crawl_history.specs.Steps.{Legal, Step, Steps}
+use Rattle.crawl_history.specs.Steps.{Legal, Step}
 use Rattle.core_facts.specs.CoreFacts.{Pages, facts_with}
 use Rattle.core_facts.specs.ValidEvent.{is_event}
 use Rattle.core_facts.specs.Validity.{ItemsAreValid, ValidIsComputed}
 use Rattle.frontier_adds.proofs.Fewer.{few_distinct}
-use Rattle.frontier_core.proofs.Emits.{in_time, legal_keeps}
+use Rattle.history_steps.proofs.Legal.{in_room, in_time, legal_more}
 use Rattle.frontier_memo.specs.Laws.{KeysGrow}
 use Rattle.job_order.specs.declared.read.Job.{Job}
 use Rattle.job_ranges.specs.Laws.{IsInRange}
@@ -23,20 +23,6 @@ use Rattle.journal_valid.specs.Valid.{IsEvent}
 use Rattle.open_crawl.specs.Opening.{AddsSeeds, Begins, added, next_session, time_after}
 use Rattle.open_crawl.proofs.Begun.{seeds_valid}
 use Rattle.open_crawl.proofs.Firsts.{few_added}
-
--- steps from a history on, and one step behind them
-steps_more : (f : Facts) (a : Archive) (before events : List Event) (e : Event) → Steps f a (history_of before) events
-    → Step f a (history_of (before ++ events)) e → Steps f a (history_of before) (events ++ e ∷ [])
-steps_more f a before [] e steps step = (subst (λ l. Step f a (history_of l) e) (append-nil before) step, tt)
-steps_more f a before (x ∷ events) e steps step = (
-  steps.0,
-  steps_more f a (before ++ x ∷ []) events e steps.1 (subst (λ l. Step f a (history_of l) e) (sym (append_assoc before (x ∷ []) events)) step),
-)
-
--- no more keys are known than the job allows
-in_room : (f : Facts) (a : Archive) (events : List Event) → Legal f a events → length (known_keys (history_of events)) ≤ f.settings.max_keys
-in_room f a events legal =
-    legal_keeps f a (λ h. length (known_keys h) ≤ f.settings.max_keys) (λ h e before step. step.room) events (omega arith) legal
 
 or_true : (b : Bool) → (b || true) ≡ true
 or_true true = refl
@@ -102,4 +88,4 @@ module _ (text : List ℕ) (job : Job) (range : IsInRange text job.settings job.
       subst (Legal own a) (sym begins.is) (session.0, (seeds_step made forms begins.seeds begins.adds session, tt))
   opening_legal made grow forms (e ∷ held) new begins legal =
       subst (λ (l : List Event). Legal own a ((e ∷ held) ++ l)) (sym begins)
-      (steps_more own a [] (e ∷ held) (next_session job.settings (e ∷ held) moment) legal (session_step grow (e ∷ held) legal))
+      (legal_more own a (e ∷ held) (next_session job.settings (e ∷ held) moment) legal (session_step grow (e ∷ held) legal))

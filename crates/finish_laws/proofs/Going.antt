@@ -1,16 +1,16 @@
 -- A legal history is legal with a visit behind it.
 use Rattle.std.proofs.Common.{◌≡◌, ℕ, ◌+◌, List, [], ◌∷◌, ◌++◌, refl, sym, ◌∙◌, ap, subst, arith, Option}
-use Rattle.std.proofs.lemmas.List.{append-nil, append_assoc}
-use Rattle.crawl_kinds.specs.declared.event.Event.{Event}
+use Rattle.std.proofs.lemmas.List.{append_assoc}
 use Rattle.crawl_kinds.specs.declared.settings.Settings.{Settings}
 use Rattle.crawl_kinds.specs.declared.snapshot.Edge.{Edge}
 use Rattle.crawl_traits.specs.declared.link.Link.{Ghosts as LinkGhosts}
 use Rattle.crawl_history.specs.Citations.{cited_end}
 use Rattle.crawl_history.specs.Counts.{try_number, vain_tries}
 use Rattle.crawl_history.specs.Facts.{Archive, Facts}
-use Rattle.crawl_history.specs.History.{History, history_of, with_event}
-use Rattle.crawl_history.specs.Steps.{Legal, Step, Steps}
+use Rattle.crawl_history.specs.History.{History, with_event}
+use Rattle.crawl_history.specs.Steps.{Legal}
 use Rattle.history_steps.specs.ScansStep.{ScansStep}
+use Rattle.history_steps.proofs.Legal.{legal_more}
 use Rattle.core_facts.specs.CoreFacts.{Pages, facts_with}
 use Rattle.crawl_facts.specs.Pages.{ArePages}
 use Rattle.scope_spec.specs.Decision.{ScopeRules}
@@ -25,21 +25,6 @@ use Rattle.visit_spec.specs.Recorded.{IsRecorded}
 use Rattle.visit_spec.specs.Visits.{HoldsVisits, IsVisit, Visit, events, finish_of}
 use Rattle.finish_laws.specs.Going.{IsByHistory, VisitGoesOn}
 use Rattle.finish_laws.specs.Laws.{IsEndFor, ProcessedMayEnd}
-
--- ---- one step more
-
--- steps from a history on, and one step behind them
-steps_more : (f : Facts) (a : Archive) (before events : List Event) (e : Event) → Steps f a (history_of before) events
-    → Step f a (history_of (before ++ events)) e → Steps f a (history_of before) (events ++ e ∷ [])
-steps_more f a before [] e steps step = (subst (λ l. Step f a (history_of l) e) (append-nil before) step, tt)
-steps_more f a before (x ∷ events) e steps step = (
-  steps.0,
-  steps_more f a (before ++ x ∷ []) events e steps.1 (subst (λ l. Step f a (history_of l) e) (sym (append_assoc before (x ∷ []) events)) step),
-)
-
--- so a legal history is legal with one step more
-legal_more : (f : Facts) (a : Archive) (events : List Event) (e : Event) → Legal f a events → Step f a (history_of events) e → Legal f a (events ++ e ∷ [])
-legal_more f a events e legal step = steps_more f a [] events e legal step
 
 -- ---- an emit records nothing, and is no try in vain
 

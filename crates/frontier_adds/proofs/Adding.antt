@@ -1,7 +1,6 @@
 -- What seeds and ends add, against the history.
-use Rattle.std.proofs.Common.{◌≡◌, ℕ, ◌+◌, ◌<◌, ◌≤◌, ◌/◌, Bool, true, false, ◌||◌, not, ◌==◌, cond, List, [], ◌∷◌, ◌++◌, map, length, refl, sym, ◌∙◌, ap, subst, Option, Some, None, arith, length-append}
-use Rattle.std.specs.Prelude.{◌&&◌, All, filter, find, nat_le, nat_lt, nat_abs, if◌then◌else◌}
-use Rattle.std.specs.List.{list_any}
+use Rattle.std.proofs.Common.{◌≡◌, ℕ, ◌≤◌, ◌/◌, Bool, true, false, ◌==◌, cond, List, [], ◌∷◌, ◌++◌, map, length, refl, sym, ◌∙◌, ap, Option, Some, None, arith, length-append}
+use Rattle.std.specs.Prelude.{◌&&◌, All, filter, nat_le, nat_abs, if◌then◌else◌}
 use Rattle.std.specs.BTreeMap.{BTreeMap}
 use Rattle.std.proofs.lemmas.Bool.Decides.{Decides-eqb, nat_tests}
 use Rattle.std.proofs.lemmas.List.Elements.{All-map, All-weaker}
@@ -14,12 +13,12 @@ use Rattle.crawl_kinds.specs.declared.event.Verdict.TheVariants.{Allowed, Preclu
 use Rattle.crawl_kinds.specs.declared.item.Item.{Item}
 use Rattle.crawl_kinds.specs.declared.settings.Settings.{Settings}
 use Rattle.crawl_kinds.specs.Event.{Finishing}
-use Rattle.crawl_history.specs.Adds.{item_of, new_items, page_candidates, redirect_path, same_key, seed_candidates, unless_waiting, next_robots, adds_by_outcome, finish_adds}
-use Rattle.crawl_history.specs.Facts.{Archive, Facts, Link}
+use Rattle.crawl_history.specs.Adds.{item_of, new_items, page_candidates, same_key, seed_candidates, unless_waiting, next_robots, adds_by_outcome, finish_adds}
+use Rattle.crawl_history.specs.Facts.{Archive, Facts}
 use Rattle.crawl_history.specs.History.{History}
 use Rattle.crawl_history.specs.Outcomes.{is_prerequisite}
 use Rattle.crawl_history.specs.Places.{is_absent, is_waiting, place_of}
-use Rattle.crawl_history.specs.Robots.{page_links, redirect_of, status_class}
+use Rattle.crawl_history.specs.Robots.{redirect_of, status_class}
 use Rattle.crawl_history.specs.Scans.{distinct}
 use Rattle.crawl_history.specs.Scope.{is_in_scope, most_letters}
 use Rattle.scope_spec.specs.Decision.{ScopeRules}

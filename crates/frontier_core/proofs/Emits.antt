@@ -2,11 +2,9 @@
 use Rattle.std.proofs.Common.{◌≡◌, ℕ, ◌+◌, ◌<◌, ◌≤◌, max, ◌^◌, Bool, true, false, ◌||◌, List, [], ◌∷◌, ◌++◌, length, refl, sym, ◌∙◌, ap, ap₂, subst, Option, Some, None, arith, nat_lt, nat_le, add-zero}
 use Rattle.std.specs.Prelude.{◌&&◌, not, filter_map, if◌then◌else◌}
 use Rattle.std.specs.List.{list_all, AllByRecursion, cons_option}
-use Rattle.std.specs.Option.{option_or}
 use Rattle.std.specs.Ordering.{int_eq}
 use Rattle.std.proofs.lemmas.Bool.{le-leb, lt-ltb, ltb-true}
 use Rattle.std.proofs.lemmas.Slice.Eq.{bytes_eq-Decides}
-use Rattle.std.proofs.lemmas.List.{append-nil, append_assoc}
 use Rattle.crawl_kinds.specs.declared.event.TheConstants.{MAX_MS}
 use Rattle.crawl_kinds.specs.declared.event.Event.{Event}
 use Rattle.crawl_kinds.specs.declared.event.Event.TheVariants.{Session, Seeds, Emit, Finish}
@@ -25,18 +23,17 @@ use Rattle.crawl_history.specs.Counts.{vain_tries, is_vain_finish, try_number}
 use Rattle.crawl_history.specs.Ends.{Suits, is_fetched_end}
 use Rattle.crawl_history.specs.Outcomes.{is_retry}
 use Rattle.crawl_history.specs.Places.{has_key, adds_key, is_waiting, known_keys}
-use Rattle.crawl_history.specs.Queues.{Add, all_adds, adds_from, ordinal_count}
-use Rattle.crawl_history.specs.Scans.{last_of}
+use Rattle.crawl_history.specs.Queues.{all_adds, adds_from, ordinal_count}
 use Rattle.crawl_history.specs.Emission.{answer, Gives}
-use Rattle.crawl_history.specs.Steps.{last_caller, Step, Steps, Legal, Permits, FinishesOne}
+use Rattle.crawl_history.specs.Steps.{last_caller, Step, Legal, Permits, FinishesOne}
 use Rattle.crawl_history.specs.Tickets.{emit_out}
 use Rattle.crawl_history.specs.Verdicts.{verdict}
 use Rattle.history_steps.specs.ScansStep.{one_if}
 use Rattle.history_steps.proofs.Counting.{vain_tries-with_event}
-use Rattle.frontier_memo.specs.Fits.{item_at, last_added, place_at_add, EmitFits, Fits}
+use Rattle.frontier_memo.specs.Fits.{last_added, place_at_add, EmitFits, Fits}
 use Rattle.frontier_memo.specs.Sums.{saturated}
+use Rattle.history_steps.proofs.Legal.{in_room, in_time, legal_keeps}
 use Rattle.history_steps.proofs.Placing.{all_adds-with_event}
-use Rattle.history_steps.proofs.Sessions.{last_time-with_event}
 use Rattle.core_facts.specs.CoreFacts.{Pages}
 use Rattle.core_facts.specs.ValidEvent.{is_item, is_add, is_event}
 use Rattle.frontier_core.specs.Choosing.{GoesOut}
@@ -47,27 +44,6 @@ use Rattle.frontier_core.specs.Core.{Core, facts, history, next_time}
 use Rattle.frontier_core.proofs.Added.{numbered, of_last}
 use Rattle.frontier_memo.proofs.Counting.{keys_more}
 use Rattle.frontier_memo.proofs.Lists.{all-append}
-
--- ---- what holds from the start and through each step holds of a legal history
-
-module _ (f : Facts) (a : Archive) (P : History → Type 0) (keep : (h : History) (e : Event) → P h → Step f a h e → P (with_event h e)) where
-  through : (before events : List Event) → P (history_of before) → Steps f a (history_of before) events → P (history_of (before ++ events))
-  through before [] holds steps = subst (λ l. P (history_of l)) (sym (append-nil before)) holds
-  through before (e ∷ events) holds steps =
-      subst (λ l. P (history_of l)) (append_assoc before (e ∷ []) events) (through (before ++ e ∷ []) events (keep (history_of before) e holds steps.0) steps.1)
-
-  pub legal_keeps : (events : List Event) → P (history_of []) → Legal f a events → P (history_of events)
-  legal_keeps events start legal = through [] events start legal
-
--- times end with the year 9999
-pub in_time : (f : Facts) (a : Archive) (events : List Event) → Legal f a events → last_time (history_of events) ≤ MAX_MS
-in_time f a events legal =
-    legal_keeps f a (λ h. last_time h ≤ MAX_MS) (λ h e before step. omega (arith, before, step.in_time, last_time-with_event h e)) events (omega arith) legal
-
--- no more keys are known than the job allows
-in_room : (f : Facts) (a : Archive) (events : List Event) → Legal f a events → length (known_keys (history_of events)) ≤ f.settings.max_keys
-in_room f a events legal =
-    legal_keeps f a (λ h. length (known_keys h) ≤ f.settings.max_keys) (λ h e before step. step.room) events (omega arith) legal
 
 -- ---- all that was added is valid
 

@@ -1,5 +1,5 @@
 -- The end of an item is one step of a legal history.
-use Rattle.std.proofs.Common.{◌≡◌, ℕ, ◌+◌, ◌≤◌, ◌^◌, max, Bool, true, false, ◌||◌, ◌==◌, List, [], ◌∷◌, ◌++◌, length, refl, sym, ◌∙◌, ap, subst, Option, Some, None, arith, nat_lt, nat_le}
+use Rattle.std.proofs.Common.{◌≡◌, ℕ, ◌+◌, ◌≤◌, ◌^◌, true, false, ◌==◌, List, [], ◌∷◌, ◌++◌, length, refl, sym, ap, subst, Some, None, arith, nat_lt, nat_le}
 use Rattle.std.specs.Prelude.{◌&&◌, not, filter, option_map, if◌then◌else◌}
 use Rattle.std.specs.List.{list_all, AllByRecursion}
 use Rattle.std.proofs.lemmas.Bool.{le-leb}
@@ -10,11 +10,10 @@ use Rattle.crawl_kinds.specs.declared.event.Event.TheVariants.{Session, Seeds, E
 use Rattle.crawl_kinds.specs.declared.item.Item.{Item}
 use Rattle.crawl_kinds.specs.Event.{emit_of, finish_of, Emission, Finishing}
 use Rattle.crawl_history.specs.Adds.{finish_adds}
-use Rattle.crawl_history.specs.Facts.{Facts, Archive}
-use Rattle.crawl_history.specs.History.{History, history_of, is_session, last_time, session_finishes, with_event}
-use Rattle.crawl_history.specs.Places.{is_waiting, known_keys, place_of}
+use Rattle.crawl_history.specs.Facts.{Archive}
+use Rattle.crawl_history.specs.History.{History, is_session, last_time, session_finishes, with_event}
 use Rattle.crawl_history.specs.Steps.{FinishesOne, Legal, Permits, Step}
-use Rattle.crawl_history.specs.Tickets.{emits_out, emit_out, is_ended}
+use Rattle.crawl_history.specs.Tickets.{emits_out, is_ended}
 use Rattle.history_steps.specs.ScansStep.{ends_emit, out_by}
 use Rattle.history_steps.proofs.Sessions.{emits_out-with_event}
 use Rattle.core_facts.specs.CoreFacts.{Pages}
@@ -30,7 +29,8 @@ use Rattle.frontier_core.specs.Core.{Core, absent_count, facts, history, known_c
 use Rattle.frontier_core.specs.Emitting.{emission_of, IsHeld}
 use Rattle.frontier_core.specs.Finishing.{finish_by, finish_event, MayEnd}
 use Rattle.frontier_core.specs.declared.emitted.Emitted.{Emitted}
-use Rattle.frontier_core.proofs.Emits.{added_add, and_both, and_left, and_right, in_time, legal_keeps, or_left, some_event}
+use Rattle.history_steps.proofs.Legal.{in_time, legal_keeps}
+use Rattle.frontier_core.proofs.Emits.{added_add, and_both, and_left, and_right, or_left, some_event}
 
 -- ---- what is out was made by one of the callers, under a ticket of 64 bits
 

@@ -1,13 +1,13 @@
 -- What was handed out is out, and stays so until its own finish or the next session.
-use Rattle.std.proofs.Common.{◌≡◌, ℕ, ◌+◌, ◌≤◌, Bool, true, false, ◌||◌, not, ◌==◌, cond, List, [], ◌∷◌, ◌++◌, refl, sym, ◌∙◌, ap, subst, Option, Some, None, arith}
-use Rattle.std.specs.Prelude.{filter, find, IfSome, option_to_list, if◌then◌else◌}
+use Rattle.std.proofs.Common.{◌≡◌, ℕ, ◌+◌, ◌≤◌, Bool, true, false, ◌||◌, not, ◌==◌, cond, List, [], ◌∷◌, ◌++◌, refl, sym, ◌∙◌, ap, Option, Some, None, arith}
+use Rattle.std.specs.Prelude.{filter, find, IfSome, if◌then◌else◌}
 use Rattle.std.specs.List.{list_any, AllByRecursion}
 use Rattle.std.proofs.lemmas.Bool.Decides.{Decides-eqb}
 use Rattle.crawl_kinds.specs.declared.event.Event.{Event}
 use Rattle.crawl_kinds.specs.declared.event.Event.TheVariants.{Emit}
 use Rattle.crawl_kinds.specs.Event.{emit_of, finish_of, Emission, Finishing}
 use Rattle.crawl_history.specs.History.{History, history_of, is_session, session_finishes, ticket_count, with_event}
-use Rattle.crawl_history.specs.Tickets.{emits_out, emit_out, is_ended}
+use Rattle.crawl_history.specs.Tickets.{emits_out, emit_out}
 use Rattle.history_steps.specs.ScansStep.{ends_emit, out_by}
 use Rattle.history_steps.proofs.Sessions.{emits_out-with_event}
 use Rattle.frontier_core.specs.Core.{Core, history}

@@ -1,5 +1,5 @@
 -- The core after seeds.
-use Rattle.std.proofs.Common.{◌≡◌, ℕ, ◌+◌, ◌<◌, ◌≤◌, max, Bool, true, false, List, [], ◌∷◌, length, refl, sym, ◌∙◌, ap, subst, cond, arith, nat_le, nat_lt}
+use Rattle.std.proofs.Common.{◌≡◌, ℕ, ◌+◌, ◌<◌, ◌≤◌, Bool, true, false, List, [], ◌∷◌, length, refl, sym, ◌∙◌, ap, subst, cond, arith, nat_le, nat_lt}
 use Rattle.std.specs.Prelude.{All, count_by, filter}
 use Rattle.std.specs.List.{list_all, list_any, AllByRecursion}
 use Rattle.std.proofs.lemmas.Bool.{le-leb, lt-ltb}
@@ -18,7 +18,8 @@ use Rattle.core_facts.specs.ValidEvent.{is_add, is_address}
 use Rattle.core_facts.specs.Validity.{ItemsAreValid, ValidIsComputed}
 use Rattle.frontier_core.specs.Answers.{IsSeeded, IsFull}
 use Rattle.frontier_core.specs.Core.{Core, absent_count, facts, history, with_event, next_time, known_count, seed_adds}
-use Rattle.frontier_core.proofs.Emits.{and_both, in_time, or_left}
+use Rattle.history_steps.proofs.Legal.{in_time}
+use Rattle.frontier_core.proofs.Emits.{and_both, or_left}
 use Rattle.frontier_memo.specs.Fits.{Fits}
 use Rattle.frontier_memo.specs.Laws.{are_new}
 use Rattle.frontier_memo.proofs.Counting.{keys_more}

@@ -1,4 +1,5 @@
 pub mod Counting
+pub mod Legal
 pub mod Lists
 pub mod Placing
 pub mod Sessions

@@ -1,5 +1,5 @@
 -- Causes of statuses, from those of the calls below.
-use Rattle.std.proofs.Common.{◌≡◌, ◌≢◌, inl, inr, ℕ, ◌<◌, ◌≤◌, List, [], length, None, refl, ◌∙◌, subst, arith}
+use Rattle.std.proofs.Common.{◌≡◌, ◌≢◌, inl, ℕ, ◌<◌, ◌≤◌, List, [], length, None, refl, ◌∙◌, subst, arith}
 use Rattle.std.specs.Prelude.{Bool, IsTrue}
 use Rattle.crawl_traits.specs.Causes.{Rose}
 use Rattle.crawl_traits.specs.Images.{Image}
@@ -12,16 +12,14 @@ use Rattle.job_order.specs.declared.read.Job.{Job}
 use Rattle.job_spec.specs.Job.{IsRefusal}
 use Rattle.job_spec.specs.declared.fault.JobFault.{JobFault}
 use Rattle.job_spec.specs.declared.fault.JobFault.TheVariants as fault
-use Rattle.open_crawl.specs.Damage.{IsCrawlDamage}
 use Rattle.open_crawl.specs.Faults.{IsDamageOf, IsLoadFault}
-use Rattle.open_crawl.specs.JobFile.{IsTextDamage, IsJobDamage, HoldsText}
+use Rattle.open_crawl.specs.JobFile.{HoldsText}
 use Rattle.open_crawl.specs.declared.fault.LoadFault.{LoadFault}
 use Rattle.open_crawl.specs.declared.fault.LoadFault.TheVariants as load
 use Rattle.open_crawl.specs.declared.fault.SeedsStop.{SeedsStop}
 use Rattle.open_crawl.specs.declared.fault.SeedsStop.TheVariants as stop
 use Rattle.program_status.specs.declared.status.Status.{Status}
 use Rattle.program_status.specs.declared.status.Status.TheVariants.{Done, Usage, JobRefused, VolumeFault, Damaged, SinkFault, Full, NoMemory, NoJob, JobThere, SourceFault}
-use Rattle.recover_journal.specs.Holds.{journal_file}
 use Rattle.seed_list.specs.Bad.{most_text}
 use Rattle.job_commands.specs.Causes.{Causes, IsCaused, IsTooLong, source_causes, volume_causes}
 use Rattle.job_commands.specs.Enqueue.{AreSeedsIn, Filled, HasJob, IsSeedsRefusal, enqueue_causes}

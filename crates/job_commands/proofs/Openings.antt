@@ -1,5 +1,5 @@
 -- What an opening leaves, over any volume.
-use Rattle.std.proofs.Common.{◌≡◌, ◌≢◌, inl, inr, ℕ, List, [], ◌∷◌, ◌++◌, refl, sym, ◌∙◌, ap, subst}
+use Rattle.std.proofs.Common.{◌≡◌, ℕ, List, [], ◌∷◌, sym, subst}
 use Rattle.crawl_kinds.specs.declared.event.Event.{Event}
 use Rattle.crawl_traits.specs.Images.{Image}
 use Rattle.frontier_memo.specs.Fits.{AllFit}

@@ -1,10 +1,9 @@
 -- What a crash leaves in the midst of a command, over any volume.
 use Rattle.std.proofs.Common.{◌≡◌, ◌≢◌, inl, inr, ⊎_elim, ℕ, ◌≤◌, List, [], ◌∷◌, ◌++◌, length, refl, sym, ◌∙◌, subst}
-use Rattle.std.specs.Prelude.{IsTrue, ◌⊎◌}
+use Rattle.std.specs.Prelude.{IsTrue}
 use Rattle.crawl_kinds.specs.declared.event.Event.{Event}
 use Rattle.crawl_traits.specs.Images.{Image, After}
 use Rattle.crawl_traits.specs.Runs.{LeavesOnly, IsSettled}
-use Rattle.crawl_traits.specs.declared.file.FileId.{FileId}
 use Rattle.crawl_traits.specs.declared.file.FileId.TheVariants as file
 use Rattle.crawl_traits.specs.declared.volume.Volume.{Ghosts}
 use Rattle.crawl_traits.proofs.Moments.{weaker, joined, now_one}
@@ -12,12 +11,12 @@ use Rattle.gate_log.specs.Blocks.{Counts}
 use Rattle.gate_log.specs.Rest.{CountsOneMore}
 use Rattle.job_order.specs.declared.read.Job.{Job}
 use Rattle.open_crawl.specs.JobFile.{IsTextOfJob}
-use Rattle.open_crawl.specs.Opening.{AddsSeeds, Begins}
+use Rattle.open_crawl.specs.Opening.{Begins}
 use Rattle.open_crawl.specs.Standing.{HoldsBegun, HoldsSeeded}
 use Rattle.recover_journal.specs.Holds.{journal_file, HoldsEvents}
-use Rattle.job_commands.specs.Enqueue.{HoldsAdded, HoldsEnqueued}
-use Rattle.job_commands.specs.Init.{HoldsInitiated, KeepsOpened}
-use Rattle.job_commands.specs.Opened.{HoldsOpened, KeepsJob, Opens}
+use Rattle.job_commands.specs.Enqueue.{HoldsEnqueued}
+use Rattle.job_commands.specs.Init.{HoldsInitiated}
+use Rattle.job_commands.specs.Opened.{KeepsJob, Opens}
 
 module _ {V : Type 0} (of : Ghosts V) where
   -- a state of which a crash now leaves what it left before

@@ -1,5 +1,5 @@
 -- What the output gains.
-use Rattle.std.proofs.Common.{◌≡◌, ℕ, ◌<◌, List, [], ◌++◌, take, refl, ◌∙◌, ap, subst, arith}
+use Rattle.std.proofs.Common.{◌≡◌, ℕ, List, [], ◌++◌, take, refl, ◌∙◌, ap, arith}
 use Rattle.std.proofs.lemmas.List.{take_all, append-nil}
 use Rattle.program_status.specs.Gains.{Gains, GainsFront}
 use Rattle.program_status.specs.Status.{status_text}

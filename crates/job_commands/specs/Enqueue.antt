@@ -3,7 +3,7 @@
 --     Filled ..      it was opened, and has no room for them
 --     enqueue_causes ..      the causes of its statuses
 --     HoldsEnqueued ..      what a crash at any moment leaves of the journal
-use Rattle.std.specs.Prelude.{◌≡◌, ◌⊎◌, ℕ, ◌<◌, ◌≤◌, Bool, IsTrue, List, [], ◌∷◌, ◌++◌, length, None}
+use Rattle.std.specs.Prelude.{◌⊎◌, ℕ, ◌<◌, ◌≤◌, Bool, IsTrue, List, [], ◌∷◌, ◌++◌, length, None}
 use Rattle.crawl_kinds.specs.declared.event.Event.{Event}
 use Rattle.crawl_traits.specs.Images.{Image}
 use Rattle.crawl_traits.specs.declared.file.FileId.TheVariants as file

@@ -8,7 +8,6 @@ use Rattle.crawl_traits.specs.Images.{Image}
 use Rattle.crawl_traits.specs.declared.file.FileId.{FileId}
 use Rattle.crawl_traits.specs.declared.file.FileId.TheVariants as file
 use Rattle.gate_log.specs.Blocks.{Counts}
-use Rattle.job_order.specs.declared.read.Job.{Job}
 use Rattle.job_spec.specs.Job.{IsRefusal}
 use Rattle.job_spec.specs.declared.fault.JobFault.{JobFault}
 use Rattle.job_spec.specs.declared.fault.JobFault.TheVariants as fault

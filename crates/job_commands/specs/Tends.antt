@@ -1,6 +1,6 @@
 -- What `tend` promises for its words.
 --     Tends ..      of what a call was given and left
-use Rattle.std.specs.Prelude.{◌≡◌, ◌≢◌, ℕ, ◌≤◌, IsTrue, MatchResult, Ok, List, [], ◌∷◌, ◌++◌, length}
+use Rattle.std.specs.Prelude.{◌≡◌, ◌≢◌, ℕ, ◌≤◌, IsTrue, MatchResult, Ok, List, [], ◌++◌, length}
 use Rattle.crawl_kinds.specs.declared.event.Event.{Event}
 use Rattle.crawl_traits.specs.Causes.{Rose}
 use Rattle.crawl_traits.specs.Images.{After}

@@ -1,6 +1,6 @@
 -- The words of a call.
 --     read_of words      the command that the words are, or the first word at which none continues
-use Rattle.std.specs.Prelude.{ℕ, ◌==◌, Bool, true, false, List, [], ◌∷◌, length, Option, Some, None, Result, Ok, Err, codes, if◌then◌else◌}
+use Rattle.std.specs.Prelude.{ℕ, ◌==◌, Bool, List, [], ◌∷◌, length, Option, Some, None, Result, Ok, Err, codes, if◌then◌else◌}
 use Rattle.std.specs.Str.{bytes_eq}
 use Rattle.job_commands.specs.declared.words.Command.{Command}
 use Rattle.job_commands.specs.declared.words.Command.TheVariants.{Init, Enqueue}

@@ -1,6 +1,6 @@
 -- Addresses of one host with plain paths.
-use Rattle.std.proofs.Common.{◌≡◌, ℕ, ◌+◌, ◌≤◌, ◌<◌, Bool, true, false, not, ◌&&◌, ◌||◌, ◌==◌, eqb, List, [], ◌∷◌, ◌++◌, length, drop, codes, None, All, inl, refl, sym, ap, subst, ◌∙◌, ⊎_elim, arith, append-nil, length-append, map}
-use Rattle.std.specs.Prelude.{nat_le, bytes_eq, cond, flat_map, string_bytes}
+use Rattle.std.proofs.Common.{◌≡◌, ℕ, ◌≤◌, ◌<◌, Bool, true, false, not, ◌&&◌, ◌||◌, ◌==◌, eqb, List, [], ◌∷◌, ◌++◌, length, drop, codes, None, All, inl, refl, sym, ap, subst, ◌∙◌, ⊎_elim, arith, append-nil}
+use Rattle.std.specs.Prelude.{bytes_eq, cond, flat_map, string_bytes}
 use Rattle.std.specs.List.{concat, join_with_byte, list_all, onto_first, slice_split}
 use Rattle.std.specs.Char.{to_ascii_lowercase}
 use Rattle.std.proofs.lemmas.Bool.{and_parts, and_from, cases_Bool, cond-true, cond-false, eqb-true, false≢true, not-true}
@@ -10,7 +10,7 @@ use Rattle.std.proofs.lemmas.List.Splits.{join_with_byte-slice_split, length-sli
 use Rattle.std.proofs.lemmas.Slice.Eq.{bytes_eq-Decides}
 use Rattle.std.proofs.lemmas.Str.Ascii.{lowercase_is}
 use Rattle.percent_encoding.specs.Percent.{IsKept}
-use Rattle.crawl_kinds.specs.Address.{IsUri, IsUriOf}
+use Rattle.crawl_kinds.specs.Address.{IsUriOf}
 use Rattle.crawl_kinds.specs.Text.{is_visible, text_fault}
 use Rattle.url.specs.declared.scheme.SchemeType.{SchemeType}
 use Rattle.url.specs.declared.sets.TheConstants.{PATH}

@@ -1,4 +1,4 @@
-use Rattle.std.proofs.Common.{◌≡◌, ◌∙◌}
+use Rattle.std.proofs.Common.{◌∙◌}
 use Rattle.std.proofs.lemmas.Result.{IfOk-weaker}
 use Rattle.frontier_adds.proofs.Adding.{adds_same}
 use Rattle.frontier_adds.proofs.Fewer.{few_adds}

@@ -1,4 +1,4 @@
-use Rattle.std.proofs.Common.{◌≡◌, Bool, ap, ◌∙◌}
+use Rattle.std.proofs.Common.{Bool, ap, ◌∙◌}
 use Rattle.std.specs.Prelude.{count_by}
 use Rattle.crawl_kinds.specs.declared.item.Item.{Item}
 use Rattle.crawl_history.specs.Places.{is_absent}

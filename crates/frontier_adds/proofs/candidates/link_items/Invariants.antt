@@ -1,5 +1,5 @@
-use Rattle.std.proofs.Common.{◌≡◌, map, take}
-use Rattle.frontier_adds.specs.Candidates.{link_items, seed_item}
+use Rattle.std.proofs.Common.{◌≡◌, take}
+use Rattle.frontier_adds.specs.Candidates.{link_items}
 use Rattle.frontier_adds.proofs.candidates.link_items.Given as goal
 
 abbrev pub invariant-loop-found : goal.invariant-loop-found

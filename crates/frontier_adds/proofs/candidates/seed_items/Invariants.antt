@@ -1,5 +1,5 @@
 use Rattle.std.proofs.Common.{◌≡◌, map, take}
-use Rattle.frontier_adds.specs.Candidates.{link_items, seed_item}
+use Rattle.frontier_adds.specs.Candidates.{seed_item}
 use Rattle.frontier_adds.proofs.candidates.seed_items.Given as goal
 
 abbrev pub invariant-loop-uri : goal.invariant-loop-uri

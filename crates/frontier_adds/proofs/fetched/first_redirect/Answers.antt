@@ -1,4 +1,4 @@
-use Rattle.std.proofs.Common.{◌≡◌, ◌+◌, ◌==◌, drop, sym, ap, ◌∙◌, rules}
+use Rattle.std.proofs.Common.{◌+◌, ◌==◌, drop, sym, ap, ◌∙◌, rules}
 use Rattle.std.specs.Prelude.{find}
 use Rattle.std.proofs.lemmas.List.{drop_all}
 use Rattle.crawl_history.specs.Codes.{redirect_letter}

@@ -1,4 +1,4 @@
-use Rattle.std.proofs.Common.{◌≡◌, Option, None, Some, sym, ◌∙◌, ap, refl, rules}
+use Rattle.std.proofs.Common.{Option, None, Some, sym, ◌∙◌, ap, refl, rules}
 use Rattle.std.specs.Prelude.{bytes_eq, if◌then◌else◌}
 use Rattle.frontier_memo.proofs.Maps.{written}
 use Rattle.frontier_memo.specs.Sums.{class_at}

@@ -1,5 +1,5 @@
-use Rattle.std.proofs.Common.{◌≡◌, true, false, take, sym, ◌∙◌, ap, arith}
-use Rattle.std.specs.List.{list_any, slice_split, position_or_len}
+use Rattle.std.proofs.Common.{◌≡◌, true, false, take, sym, ◌∙◌, ap}
+use Rattle.std.specs.List.{list_any, slice_split}
 use Rattle.link_spec.specs.Words.{is_blank}
 use Rattle.link_spec.specs.Values.{is_embedding_word}
 use Rattle.html_links.proofs.Rels.{words-more, words-here, words-end}

@@ -1,4 +1,4 @@
-use Rattle.std.proofs.Common.{◌≡◌, length, arith}
+use Rattle.std.proofs.Common.{◌≡◌, arith}
 use Rattle.link_spec.specs.Elements.{refs_by, role_of}
 use Rattle.html_links.proofs.Roles.{refs-next, refs-all}
 use Rattle.html_links.proofs.elements.push_attributes.Goals as goal

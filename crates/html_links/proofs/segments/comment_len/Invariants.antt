@@ -1,5 +1,4 @@
 use Rattle.std.proofs.Common.{◌≡◌, ◌+◌, ◌-◌, ◌≤◌, length, drop}
-use Rattle.std.specs.Prelude.{codes}
 use Rattle.link_spec.specs.Cut.{before_where}
 use Rattle.link_spec.specs.Segments.{ends_comment}
 use Rattle.html_links.proofs.segments.comment_len.Given as goal

@@ -1,5 +1,4 @@
 use Rattle.std.proofs.Common.{◌≡◌, true, false, sym, ◌∙◌, ap, drop, arith}
-use Rattle.std.specs.Prelude.{codes}
 use Rattle.link_spec.specs.Tags.{ends_raw}
 use Rattle.html_links.proofs.Walks.{walk-more, walk-here, walk-end}
 use Rattle.html_links.proofs.segments.raw_len.Goals as goal

@@ -1,5 +1,4 @@
 use Rattle.std.proofs.Common.{◌≡◌, ◌+◌, ◌-◌, ◌≤◌, length, drop}
-use Rattle.std.specs.Prelude.{codes}
 use Rattle.link_spec.specs.Cut.{before_where}
 use Rattle.link_spec.specs.Tags.{ends_raw}
 use Rattle.html_links.proofs.segments.raw_len.Given as goal

@@ -1,5 +1,4 @@
 use Rattle.std.proofs.Common.{◌≡◌, true, false, sym, ◌∙◌, ap, drop, arith}
-use Rattle.std.specs.Prelude.{codes}
 use Rattle.link_spec.specs.Segments.{begins_segment}
 use Rattle.html_links.proofs.Walks.{walk-more, walk-here, walk-end}
 use Rattle.html_links.proofs.segments.text_len.Goals as goal

@@ -1,4 +1,4 @@
-use Rattle.std.proofs.Common.{◌≡◌, ◌≢◌, ◌≤◌, Err, refl, ap, ◌∙◌, subst, arith}
+use Rattle.std.proofs.Common.{◌≢◌, Err, refl, ap, ◌∙◌, subst, arith}
 use Rattle.crawl_traits.specs.Causes.{Rose}
 use Rattle.program_status.specs.Gains.{Gains}
 use Rattle.program_status.specs.Status.{status_text}

@@ -1,4 +1,4 @@
-use Rattle.std.proofs.Common.{◌≡◌, ◌≢◌, ◌≤◌, refl, arith}
+use Rattle.std.proofs.Common.{◌≢◌, refl, arith}
 use Rattle.crawl_traits.specs.Causes.{Rose}
 use Rattle.program_status.specs.declared.status.Status.TheVariants.{Done}
 use Rattle.job_commands.specs.Init.{init_causes}

@@ -1,4 +1,4 @@
-use Rattle.std.proofs.Common.{◌≡◌, ◌∷◌, ◌++◌, [], ℕ, List, Err, refl, ap, sym, ◌∙◌, subst}
+use Rattle.std.proofs.Common.{◌≡◌, ◌++◌, ℕ, List, Err, refl, ap, sym, ◌∙◌, subst}
 use Rattle.std.specs.Prelude.{IsTrue}
 use Rattle.crawl_traits.specs.Causes.{Rose}
 use Rattle.crawl_traits.specs.Images.{After, Image}
@@ -11,7 +11,7 @@ use Rattle.std.proofs.Common.{None}
 use Rattle.program_status.specs.Gains.{GainsFront}
 use Rattle.program_status.specs.declared.status.Status.TheVariants.{SinkFault}
 use Rattle.job_commands.specs.Causes.{IsCaused, volume_causes}
-use Rattle.job_commands.specs.Enqueue.{AreSeedsIn, Enqueued, Filled, HoldsEnqueued, Shows}
+use Rattle.job_commands.specs.Enqueue.{AreSeedsIn, Filled, HoldsEnqueued, Shows}
 use Rattle.job_commands.specs.Opened.{IsDamaged, KeepsJob}
 use Rattle.job_commands.proofs.Caused.{added_caused, load_caused, loaded_caused, none_refused, read_caused, rose_before}
 use Rattle.job_commands.proofs.Openings.{kept_then}

@@ -1,6 +1,5 @@
-use Rattle.std.proofs.Common.{◌≡◌, inr, ◌≤◌, ◌∷◌, ◌++◌, [], ℕ, List, length, Err, ap, sym, ◌∙◌, subst, arith}
+use Rattle.std.proofs.Common.{◌≡◌, inr, ◌∷◌, ◌++◌, [], ℕ, List, Err, ap, sym, ◌∙◌, subst, arith}
 use Rattle.std.specs.Prelude.{IsTrue}
-use Rattle.crawl_kinds.specs.declared.event.Event.{Event}
 use Rattle.crawl_traits.specs.Causes.{Rose}
 use Rattle.crawl_traits.specs.Images.{After}
 use Rattle.crawl_traits.specs.Runs.{LeavesOnly}

@@ -1,4 +1,4 @@
-use Rattle.std.proofs.Common.{◌≡◌, ◌∙◌, ap, sym, not, false, length, Some, arith}
+use Rattle.std.proofs.Common.{◌≡◌, ◌∙◌, ap, sym, not, false, length, Some}
 use Rattle.scope_spec.specs.Pattern.{is_pattern}
 use Rattle.scope_rules.specs.Patterns.{is_bad}
 use Rattle.scope_rules.proofs.FirstBad.{first-behind}

@@ -1,7 +1,6 @@
-use Rattle.std.proofs.Common.{◌≡◌, ◌++◌, ◌≤◌, List, ℕ, length, None, rules, ap, subst, sym, ◌∙◌, arith}
+use Rattle.std.proofs.Common.{◌≡◌, ◌++◌, ◌≤◌, length, rules, ap, subst, sym, ◌∙◌, arith}
 use Rattle.std.specs.Prelude.{string_bytes}
 use Rattle.crawl_kinds.specs.Address.{IsUri}
-use Rattle.crawl_kinds.specs.Text.{is_visible, text_fault}
 use Rattle.uri_spec.specs.Key.{key_text}
 use Rattle.uri_spec.specs.Surt.{class_text}
 use Rattle.uri_form.proofs.Sites.{site_class, site_key_fits, site_reads, uri_fits, with_path}

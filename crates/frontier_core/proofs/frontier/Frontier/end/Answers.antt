@@ -1,5 +1,4 @@
-use Rattle.std.proofs.Common.{◌≡◌, List, ℕ, Option, Some, refl, sym, ◌∙◌, ap, subst}
-use Rattle.crawl_kinds.specs.declared.settings.Settings.{Settings}
+use Rattle.std.proofs.Common.{◌≡◌, Option, Some, refl, sym, ◌∙◌, ap, subst}
 use Rattle.frontier_core.specs.Core.{Core, robots_at, with_event}
 use Rattle.frontier_core.specs.Standing.{EndsWith}
 use Rattle.frontier_core.specs.declared.robots.KeptRobots.{KeptRobots}

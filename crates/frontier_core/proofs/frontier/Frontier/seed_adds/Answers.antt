@@ -2,11 +2,11 @@ use Rattle.std.proofs.Common.{◌≡◌, true, ap, subst, ◌∙◌}
 use Rattle.std.proofs.lemmas.Result.{IfOk-weaker}
 use Rattle.std.specs.List.{AllByRecursion}
 use Rattle.crawl_kinds.specs.declared.item.Item.{Item}
-use Rattle.crawl_history.specs.History.{History, history_of}
+use Rattle.crawl_history.specs.History.{history_of}
 use Rattle.crawl_history.specs.Places.{is_absent, place_of}
 use Rattle.frontier_adds.specs.Shown.{KeepsPlaces}
 use Rattle.frontier_memo.specs.Laws.{are_new}
-use Rattle.frontier_core.specs.Core.{Core, absent_count, history, seed_adds}
+use Rattle.frontier_core.specs.Core.{Core, history, seed_adds}
 use Rattle.frontier_core.proofs.Seeded.{count_all}
 use Rattle.frontier_core.proofs.frontier.Frontier.seed_adds.Goals as goal
 
