@@ -2,16 +2,10 @@
 #![tactic(auto)]
 
 mod adapters;
-mod crawl;
-#[cfg(test)]
-mod crawl_tests;
-mod run;
-#[cfg(test)]
-mod tests;
 
 use adapters::{StdSink, StdSource};
 use crawl_memory::{MemClock, MemLink, MemVolume, Site};
-use run::run;
+use crawl_run::run;
 use std::alloc::Global;
 use std::process::ExitCode;
 use std::{env, io};

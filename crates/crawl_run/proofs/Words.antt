@@ -2,7 +2,7 @@
 use Rattle.std.proofs.Common.{◌≡◌, ◌≢◌, ℕ, ◌-◌, ◌≤◌, ◌==◌, true, false, ◌∙◌, List, [], ◌∷◌, length, take, drop, map, refl, sym, ap, arith}
 use Rattle.std.proofs.lemmas.List.{take_rest}
 use Rattle.std.proofs.lemmas.Bool.Decides.{Decides-eqb}
-use Rattle.crawl_cli.specs.Run.{words_after}
+use Rattle.crawl_run.specs.Run.{words_after}
 
 too_few : (n : ℕ) → 1 ≤ n → n ≡ 0 → ⊥
 too_few n some none = omega (arith, some, none)

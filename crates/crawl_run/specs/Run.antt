@@ -15,7 +15,7 @@ use Rattle.program_status.specs.declared.status.Status.TheVariants.{Done, Full, 
 use Rattle.process_chains.specs.Ends.{world}
 use Rattle.job_commands.specs.Causes.{IsCaused}
 use Rattle.job_commands.specs.Statuses.{IsRefusal, SaysText}
-use Rattle.crawl_cli.specs.Crawl.{IsDone, IsFull, IsReached, crawl_causes}
+use Rattle.crawl_run.specs.Crawl.{IsDone, IsFull, IsReached, crawl_causes}
 
 -- the first word is `crawl`
 abbrev pub is_crawl : List (List ℕ) → Bool

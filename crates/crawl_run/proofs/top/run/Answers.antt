@@ -1,8 +1,8 @@
 use Rattle.std.proofs.Common.{◌≡◌, ◌∙◌, refl, sym, ap, subst, ◌-◌, length, take, drop, map, get_or, set}
 use Rattle.std.specs.String.{string_bytes}
-use Rattle.crawl_cli.specs.Run.{Crawls, words_after}
-use Rattle.crawl_cli.proofs.Words.{words_behind}
-use Rattle.crawl_cli.proofs.run.run.Goals as goal
+use Rattle.crawl_run.specs.Run.{Crawls, words_after}
+use Rattle.crawl_run.proofs.Words.{words_behind}
+use Rattle.crawl_run.proofs.top.run.Goals as goal
 
 pub returns-then-is_crawl-clause-crawls : goal.returns-then-is_crawl-clause-crawls
 returns-then-is_crawl-clause-crawls g c is first more links =

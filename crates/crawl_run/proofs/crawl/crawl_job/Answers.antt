@@ -10,9 +10,9 @@ use Rattle.job_commands.specs.Causes.{IsCaused, volume_causes}
 use Rattle.job_commands.specs.Opened.{IsDamaged, KeepsJob}
 use Rattle.job_commands.proofs.Caused.{load_caused, rose_before}
 use Rattle.job_commands.proofs.Openings.{kept_then}
-use Rattle.crawl_cli.specs.Crawl.{IsDone, IsFull, IsReached}
-use Rattle.crawl_cli.proofs.Visited.{loaded_caused, visited_caused}
-use Rattle.crawl_cli.proofs.crawl.crawl_job.Goals as goal
+use Rattle.crawl_run.specs.Crawl.{IsDone, IsFull, IsReached}
+use Rattle.crawl_run.proofs.Visited.{loaded_caused, visited_caused}
+use Rattle.crawl_run.proofs.crawl.crawl_job.Goals as goal
 
 pub returns-in-Ok-go_on-clause-done : goal.returns-in-Ok-go_on-clause-done
 returns-in-Ok-go_on-clause-done g c told told_out reached =

@@ -1,6 +1,6 @@
 // A job's life over the forms in memory: worked examples, bad input, and each call failing in turn.
-use crate::run::{Ran, run};
 use crawl_memory::{MemClock, MemLink, MemSink, MemSource, MemVolume, Site};
+use crawl_run::{Ran, run};
 use crawl_traits::{FileId, Volume};
 use std::alloc::Global;
 use std::process::Abort;

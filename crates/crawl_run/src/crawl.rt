@@ -9,8 +9,8 @@ ghost use Rattle.process_chains.specs.Ends.{world};
 ghost use Rattle.job_commands.specs.Causes.{IsCaused};
 ghost use Rattle.job_commands.specs.Opened.{KeepsJob};
 ghost use Rattle.job_commands.specs.Statuses.{IsRefusal};
-ghost use Rattle.crawl_cli.specs.Crawl.{IsDone, IsFull, IsReached, crawl_causes, stop_status};
-ghost use Rattle.crawl_cli.specs.Run.{Crawls};
+ghost use Rattle.crawl_run.specs.Crawl.{IsDone, IsFull, IsReached, crawl_causes, stop_status};
+ghost use Rattle.crawl_run.specs.Run.{Crawls};
 
 use crawl_laws::{opening_goes_on, visits_are_held};
 use crawl_traits::{Clock, Link, Sink, Volume};

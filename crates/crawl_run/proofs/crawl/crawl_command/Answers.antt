@@ -11,10 +11,10 @@ use Rattle.program_status.specs.declared.status.Status.{Status}
 use Rattle.program_status.specs.declared.status.Status.TheVariants.{Full, Usage}
 use Rattle.job_commands.proofs.Caused.{never_done, never_usage, rose_after, rose_before}
 use Rattle.job_commands.proofs.Said.{gains_from}
-use Rattle.crawl_cli.specs.Crawl.{IsFull, IsReached, crawl_causes}
-use Rattle.crawl_cli.proofs.Visited.{said_caused}
-use Rattle.crawl_cli.proofs.Words.{no_words, some_words}
-use Rattle.crawl_cli.proofs.crawl.crawl_command.Goals as goal
+use Rattle.crawl_run.specs.Crawl.{IsFull, IsReached, crawl_causes}
+use Rattle.crawl_run.proofs.Visited.{said_caused}
+use Rattle.crawl_run.proofs.Words.{no_words, some_words}
+use Rattle.crawl_run.proofs.crawl.crawl_command.Goals as goal
 
 pub returns-in-Ok : goal.returns-in-Ok
 returns-in-Ok g c = record {

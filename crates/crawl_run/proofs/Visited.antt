@@ -12,7 +12,7 @@ use Rattle.job_commands.specs.Causes.{IsCaused, volume_causes}
 use Rattle.job_commands.specs.Opened.{IsDamaged}
 use Rattle.job_commands.proofs.Caused.{caused_by}
 use Rattle.job_commands.specs.Statuses.{IsRefusal}
-use Rattle.crawl_cli.specs.Crawl.{crawl_causes, stop_status}
+use Rattle.crawl_run.specs.Crawl.{crawl_causes, stop_status}
 
 -- while the job is read
 pub loaded_caused : (s : Status) (rose sink : Type 0) (full : ℕ → ℕ → Type 0) (tells : Bool) (before : Image)

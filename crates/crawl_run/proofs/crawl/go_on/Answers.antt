@@ -1,4 +1,4 @@
-use Rattle.std.proofs.Common.{◌≡◌, ◌≢◌, ◌≤◌, ◌++◌, ℕ, List, [], Err, refl, sym, ◌∙◌, ap, subst}
+use Rattle.std.proofs.Common.{◌≡◌, ◌≢◌, ◌≤◌, ◌++◌, ℕ, List, [], Err, sym, ◌∙◌, subst}
 use Rattle.std.specs.Prelude.{IsTrue}
 use Rattle.crawl_kinds.specs.declared.event.Event.{Event}
 use Rattle.crawl_kinds.specs.declared.settings.Settings.{Settings}
@@ -14,10 +14,10 @@ use Rattle.job_commands.specs.Opened.{KeepsJob, Reopened}
 use Rattle.job_commands.specs.Statuses.{IsRefusal}
 use Rattle.job_commands.proofs.Caused.{rose_before}
 use Rattle.job_commands.proofs.Openings.{found_here}
-use Rattle.crawl_cli.specs.Crawl.{IsFull, IsOpened, IsReached, crawl_causes}
-use Rattle.crawl_cli.proofs.Going.{begun_by, full_by, kept_by, reach_by, recorded_by}
-use Rattle.crawl_cli.proofs.Visited.{never_refused, stopped_caused}
-use Rattle.crawl_cli.proofs.crawl.go_on.Goals as goal
+use Rattle.crawl_run.specs.Crawl.{IsFull, IsOpened, IsReached, crawl_causes}
+use Rattle.crawl_run.proofs.Going.{begun_by, full_by, kept_by, reach_by, recorded_by}
+use Rattle.crawl_run.proofs.Visited.{never_refused, stopped_caused}
+use Rattle.crawl_run.proofs.crawl.go_on.Goals as goal
 
 pub crawl-requires-clause-limit : goal.crawl-requires-clause-limit
 crawl-requires-clause-limit g c =

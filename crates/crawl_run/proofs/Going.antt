@@ -1,6 +1,6 @@
 -- What a crawl keeps, as the top call says it.
-use Rattle.std.proofs.Common.{◌≡◌, ◌≢◌, ℕ, ◌≤◌, List, [], ◌∷◌, ◌++◌, Option, length, take, refl, sym, ◌∙◌, ap, subst}
-use Rattle.std.specs.Prelude.{All, IsTrue}
+use Rattle.std.proofs.Common.{◌≡◌, ◌≢◌, ℕ, ◌≤◌, List, [], ◌∷◌, ◌++◌, length, take, sym, ◌∙◌, ap, subst}
+use Rattle.std.specs.Prelude.{All}
 use Rattle.std.proofs.lemmas.List.{length-take-le}
 use Rattle.crawl_kinds.specs.Address.{IsUri}
 use Rattle.crawl_kinds.specs.declared.event.Event.{Event}
@@ -19,7 +19,7 @@ use Rattle.core_facts.specs.CoreFacts.{Pages, facts_with}
 use Rattle.crawl_facts.specs.Archives.{IsArchive}
 use Rattle.crawl_facts.specs.Pages.{place_after}
 use Rattle.crawl_laws.specs.Laws.{OpeningGoesOn, VisitsAreHeld}
-use Rattle.frontier_core.specs.Core.{Core, facts, history}
+use Rattle.frontier_core.specs.Core.{Core, facts}
 use Rattle.frontier_core.specs.Standing.{Stands}
 use Rattle.history_laws.specs.Laws.{LegalIsComplete, LegalIsPolite}
 use Rattle.job_order.specs.declared.read.Job.{Job}
@@ -32,9 +32,9 @@ use Rattle.recover_journal.specs.declared.journal.Journal.{Journal}
 use Rattle.visit_spec.specs.Crawled.{IsRefused, Keeps, next_place, warc_file}
 use Rattle.visit_laws.specs.Laws.{Stretch, world_in}
 use Rattle.visit_spec.specs.Visits.{AreVisits, HoldsVisits, Visit, events, warc}
-use Rattle.job_commands.specs.Opened.{Reopened, events_then}
-use Rattle.crawl_cli.specs.Crawl.{IsFull, IsGood, IsOpened, IsReached, Recorded, warc_files}
-use Rattle.crawl_cli.proofs.Ends.{opened_end}
+use Rattle.job_commands.specs.Opened.{Reopened}
+use Rattle.crawl_run.specs.Crawl.{IsFull, IsGood, IsOpened, IsReached, Recorded, warc_files}
+use Rattle.crawl_run.proofs.Ends.{opened_end}
 
 -- a WARC file is not the journal
 not_journal : (place : Edge) → warc_file place ≢ journal_file

@@ -3,7 +3,7 @@ ghost use Rattle.std.specs.Prelude.{◌≡◌, ◌≤◌, ◌∷◌, List, lengt
 ghost use Rattle.std.specs.Str.{bytes_eq};
 ghost use Rattle.std.specs.String.{string_bytes};
 ghost use Rattle.job_commands.specs.Tends.{Tends};
-ghost use Rattle.crawl_cli.specs.Run.{Crawls, is_crawl, words_after};
+ghost use Rattle.crawl_run.specs.Run.{Crawls, is_crawl, words_after};
 
 use crate::crawl::crawl_command;
 use crawl_traits::{Clock, Link, Sink, Source, Volume};

@@ -1,6 +1,6 @@
 // `crawl` over the forms in memory: a page that is recorded, over a proxy too, and each call failing in turn.
-use crate::run::{Ran, run};
 use crawl_memory::{MemClock, MemLink, MemSink, MemSource, MemVolume, Page, Site};
+use crawl_run::{Ran, run};
 use crawl_traits::{FileId, LinkFault};
 use std::alloc::Global;
 use std::process::Abort;
