@@ -20,6 +20,3 @@ pub use link::MemLink;
 pub use page::{Page, Site};
 pub use stream::{MemSink, MemSource};
 pub use volume::MemVolume;
-
-#[cfg(test)]
-mod tests;

@@ -7,6 +7,3 @@ mod fetched;
 
 pub use adds::{finish_adds, new_keys, seed_adds};
 pub use candidates::is_prerequisite;
-
-#[cfg(test)]
-mod tests;

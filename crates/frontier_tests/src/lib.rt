@@ -1,6 +1,9 @@
-//! Tests of the core of a crawl, driven by its calls. They stand in a crate of their own, so that the core is proved once.
+//! Tests of the core of a crawl, driven by its calls, and of what seeds and ends add. They stand in a crate of their own, so that
+//! the core is proved once.
 #![tactic(auto)]
 
+#[cfg(test)]
+mod adds_tests;
 #[cfg(test)]
 mod jobs;
 #[cfg(test)]

@@ -8,6 +8,3 @@ mod page;
 mod segments;
 
 pub use page::{HtmlRefs, html_refs};
-
-#[cfg(test)]
-mod tests;

@@ -23,6 +23,3 @@ mod text;
 pub use fault::LineFault;
 pub use laws::{one_bad_line, one_text_one_list};
 pub use reader::read_events;
-
-#[cfg(test)]
-mod tests;

@@ -9,6 +9,3 @@ mod source;
 pub use extract_spec::Found;
 pub use list::Links;
 pub use response::{extract, header_refs};
-
-#[cfg(test)]
-mod tests;

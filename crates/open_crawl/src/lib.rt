@@ -9,6 +9,3 @@ mod opening;
 pub use fault::{LoadFault, SeedsStop};
 pub use job_file::{read_job, read_job_text, write_job};
 pub use opening::OpenCrawl;
-
-#[cfg(test)]
-mod tests;

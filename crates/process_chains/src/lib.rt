@@ -14,6 +14,3 @@ pub use chain::process;
 pub use ending::Ending;
 pub use processed::Processed;
 pub use steps::{Step, fetch_chain};
-
-#[cfg(test)]
-mod tests;

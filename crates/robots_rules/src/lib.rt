@@ -11,6 +11,3 @@ mod steps;
 
 pub use path::robots_path;
 pub use robots::Robots;
-
-#[cfg(test)]
-mod tests;

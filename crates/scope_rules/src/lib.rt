@@ -17,6 +17,3 @@ pub use ready::Candidate;
 pub use scope::{Scope, decide_plain};
 pub use scope_spec::{Decision, FreeForm, FreeText, Rule};
 pub use threads::{Asked, ask_each};
-
-#[cfg(test)]
-mod tests;

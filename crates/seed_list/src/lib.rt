@@ -13,6 +13,3 @@ pub use fault::SeedFault;
 pub use laws::{a_bad_line_has_one_number, a_text_with_a_bad_line_is_not_read, worked_examples};
 pub use list::{SeedList, read_seed_list};
 pub use seeds::{count_seeds, read_seeds};
-
-#[cfg(test)]
-mod tests;

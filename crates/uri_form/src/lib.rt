@@ -28,6 +28,3 @@ pub use robots::robots_uri;
 pub use seed::{seed_prefix, seed_uri};
 pub use site::{Site, named_on, site_of};
 pub use surt_form::{Surt, SurtForm, class_key, surt};
-
-#[cfg(test)]
-mod tests;

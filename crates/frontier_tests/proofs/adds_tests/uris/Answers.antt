@@ -2,7 +2,7 @@ use Rattle.std.proofs.Common.{ℕ, List, sym, subst}
 use Rattle.std.specs.Prelude.{All}
 use Rattle.std.proofs.lemmas.List.Elements.{All-push}
 use Rattle.crawl_kinds.specs.Address.{IsUri}
-use Rattle.frontier_adds.proofs.tests.uris.Goals as goal
+use Rattle.frontier_tests.proofs.adds_tests.uris.Goals as goal
 
 pub loop-text-preserved : goal.loop-text-preserved
 loop-text-preserved c =

@@ -1,11 +1,11 @@
 // Tables of what each call answers, from the URL Standard and the rules for keys, classes and SURT forms.
 ghost use Rattle.uri_form.specs.Named.{IsSite};
 
-use crate::*;
 use crawl_kinds::TextFault;
 use std::alloc::Global;
 use std::process::Abort;
 use std::test::Fail;
+use uri_form::*;
 
 fn read(alloc: Global, text: &str) -> Result<String, Fail> {
     let uri = parse_uri(alloc, text)?;

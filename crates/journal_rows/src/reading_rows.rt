@@ -1,7 +1,7 @@
 // That events are read with ample memory, and which lines are refused.
-use crate::{LineFault, read_events};
 use crawl_kinds::*;
 use journal_lines::event_lines;
+use journal_read::{LineFault, read_events};
 use std::alloc::Global;
 use std::process::Abort;
 use std::test::Fail;

@@ -1,5 +1,5 @@
 // What a link in memory answers, call by call.
-use crate::*;
+use crawl_memory::*;
 use crawl_traits::{Link, LinkFault};
 use std::alloc::Global;
 use std::test::Fail;

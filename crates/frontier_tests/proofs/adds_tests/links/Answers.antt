@@ -1,9 +1,9 @@
-use Rattle.std.proofs.Common.{List, ◌∷◌, [], ◌++◌, sym, subst}
+use Rattle.std.proofs.Common.{List, sym, subst}
 use Rattle.std.specs.Prelude.{All}
 use Rattle.std.proofs.lemmas.List.Elements.{All-push}
 use Rattle.extract_spec.specs.declared.found.Found.{Found}
 use Rattle.extract_spec.specs.Joining.{IsLink}
-use Rattle.frontier_adds.proofs.tests.links.Goals as goal
+use Rattle.frontier_tests.proofs.adds_tests.links.Goals as goal
 
 pub loop-letter-preserved : goal.loop-letter-preserved
 loop-letter-preserved c =

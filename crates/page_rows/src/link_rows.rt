@@ -1,5 +1,5 @@
 // Responses whose links are known.
-use crate::extract;
+use link_extract::extract;
 use std::alloc::Global;
 use std::test::Fail;
 use uri_form::parse_uri;

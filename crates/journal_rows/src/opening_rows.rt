@@ -3,12 +3,12 @@ ghost use Rattle.std.specs.Prelude.{◌≤◌, All, length, IfOk};
 ghost use Rattle.crawl_kinds.specs.Address.{IsUri};
 ghost use Rattle.gate_log.specs.Blocks.{IsBody};
 
-use crate::{LoadFault, OpenCrawl, SeedsStop, read_job, read_job_text, write_job};
 use crawl_kinds::Uris;
 use crawl_memory::MemVolume;
 use crawl_traits::{FileId, StoreFault, Volume};
 use job_order::Job;
 use job_ranges::job_is_in_range;
+use open_crawl::{LoadFault, OpenCrawl, SeedsStop, read_job, read_job_text, write_job};
 use std::alloc::Global;
 use std::test::Fail;
 

@@ -1,6 +1,6 @@
 // Whole files, and the answers that they give.
-use crate::{Robots, robots_path};
 use crawl_kinds::Uri;
+use robots_rules::{Robots, robots_path};
 use std::alloc::Global;
 use std::process::Abort;
 use std::test::Fail;

@@ -3,9 +3,9 @@ ghost use Rattle.std.specs.Prelude.{IfOk, All};
 ghost use Rattle.crawl_kinds.specs.Address.{IsUri};
 ghost use Rattle.extract_spec.specs.Joining.{IsLink};
 
-use crate::*;
 use crawl_kinds::{End, HopPath, Items, Key, Notes, Outcome, Uris, Verdict, Work};
 use extract_spec::Found;
+use frontier_adds::*;
 use frontier_memo::{Known, Waiting};
 use item_form::{item_of, seed_item};
 use scope_rules::{Decision, Rule, Scope};

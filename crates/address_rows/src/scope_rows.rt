@@ -1,6 +1,6 @@
 // Rules that are written out, and what they decide.
-use crate::*;
 use crawl_kinds::{HopPath, Listed};
+use scope_rules::*;
 use std::alloc::Global;
 use std::process::Abort;
 use std::test::Fail;

@@ -1,5 +1,5 @@
 // That texts are read, and which line is named where they are not.
-use crate::*;
+use seed_list::*;
 use std::alloc::Global;
 use std::test::Fail;
 

@@ -2,11 +2,11 @@
 ghost use Rattle.std.specs.Prelude.{IfOk};
 ghost use Rattle.crawl_kinds.specs.Address.{IsUri};
 
-use crate::*;
 use crawl_kinds::{ClassKey, HopPath, Item, Key, Settings, Uri, Verdict, Work};
 use crawl_memory::{MemClock, MemLink, Page, Site};
 use crawl_traits::LinkFault;
 use http_message::is_supported;
+use process_chains::*;
 use std::alloc::Global;
 use std::test::Fail;
 use uri_form::parse_uri;

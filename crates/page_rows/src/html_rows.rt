@@ -1,5 +1,5 @@
 // Whole pages, and their references.
-use crate::html_refs;
+use html_links::html_refs;
 use std::process::Abort;
 use std::test::Fail;
 
