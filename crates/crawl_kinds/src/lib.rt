@@ -20,6 +20,3 @@ pub use memory::{Copied, NoMemory};
 pub use settings::Settings;
 pub use snapshot::{ClassSpent, Edge, KeyDone, KeyWaits, Snapshot, TicketOut};
 pub use text::{ClassKey, Digest, HopPath, Key, Media, Text, TextFault, Uri};
-
-#[cfg(test)]
-mod tests;

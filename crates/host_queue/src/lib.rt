@@ -8,6 +8,3 @@ mod wait;
 pub use laws::{in_rank_order, one_order};
 pub use queue::HostQueue;
 pub use wait::polite_wait;
-
-#[cfg(test)]
-mod tests;

@@ -18,6 +18,3 @@ pub use head_fields::{
 pub use media::trim;
 pub use peer::{Peer, is_supported, peer_of};
 pub use request::request_bytes;
-
-#[cfg(test)]
-mod tests;

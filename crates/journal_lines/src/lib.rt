@@ -28,6 +28,3 @@ pub fn event_lines(event: &Event, into: &mut Vec<u8>) -> Result<(), NoMemory>
         }
     }
 }
-
-#[cfg(test)]
-mod tests;

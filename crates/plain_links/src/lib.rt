@@ -6,6 +6,3 @@ mod scripts;
 
 pub use css::css_refs;
 pub use scripts::string_refs;
-
-#[cfg(test)]
-mod tests;

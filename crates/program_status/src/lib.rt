@@ -7,6 +7,3 @@ mod status;
 
 pub use line::say;
 pub use status::Status;
-
-#[cfg(test)]
-mod tests;

@@ -12,6 +12,3 @@ pub use events::Opened;
 pub use journal::Journal;
 pub use laws::{a_journal_at_rest, one_journal};
 pub use reading::read_all;
-
-#[cfg(test)]
-mod tests;

@@ -4,6 +4,3 @@
 mod set;
 
 pub use set::SeenSet;
-
-#[cfg(test)]
-mod tests;

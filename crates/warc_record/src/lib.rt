@@ -14,6 +14,3 @@ pub use id::record_id;
 pub use record::{Field, record_bytes};
 pub use record_spec::Naming;
 pub use response::response_record;
-
-#[cfg(test)]
-mod tests;
