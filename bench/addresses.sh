@@ -6,12 +6,10 @@
 #
 #   bench/addresses.sh [RUNS]
 set -euo pipefail
-cd "$(dirname "$0")/../crates/address_bench"
+. "$(dirname "$0")/build.sh"
 
 runs=${1:-3}
 limit=4
-rt run -- data/addresses.txt 1 >/dev/null 2>&1
-program=$PWD/out/address_bench
 folder=$(mktemp -d)
 trap 'rm -rf "$folder"' EXIT
 
@@ -31,7 +29,7 @@ addresses() {
 best() {
     local TIMEFORMAT='%U' run
     for ((run = 0; run < runs; run++)); do
-        { time "$program" "$1" "$2" >/dev/null; } 2>&1
+        { time "$program" addresses "$1" "$2" >/dev/null; } 2>&1
     done | sort -n | head -n 1
 }
 

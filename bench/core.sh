@@ -7,22 +7,16 @@
 #
 #   bench/core.sh [RUNS]
 set -euo pipefail
-cd "$(dirname "$0")/../crates/core_bench"
+. "$(dirname "$0")/build.sh"
 
 runs=${1:-3}
 limit=60
-program=$PWD/out/core_bench
-
-# proved and built, unless it was since the sources changed
-if [ ! -x "$program" ] || [ -n "$(find .. -name out -prune -o -type f \( -name '*.rt' -o -name '*.antt' \) -newer "$program" -print -quit)" ]; then
-    rt run -- 100 16 >/dev/null 2>&1
-fi
 
 # user and system seconds of the best run, which other work on the machine disturbs little: PAGES
 best() {
     local TIMEFORMAT='%U %S' run
     for ((run = 0; run < runs; run++)); do
-        { time "$program" "$1" 16 >/dev/null; } 2>&1
+        { time "$program" core "$1" 16 >/dev/null; } 2>&1
     done | awk '{ print $1 + $2 }' | sort -n | head -n 1
 }
 

@@ -6,17 +6,15 @@
 #
 #   bench/enqueue.sh [RUNS]
 set -euo pipefail
-cd "$(dirname "$0")/../crates/enqueue_bench"
+. "$(dirname "$0")/build.sh"
 
 runs=${1:-3}
-rt run -- 20 10 >/dev/null 2>&1
-program=$PWD/out/enqueue_bench
 
 # milliseconds of the best run, which other work on the machine disturbs little: LINES
 best() {
     local run
     for ((run = 0; run < runs; run++)); do
-        "$program" "$1" "$1" times | awk 'NR == 2 { print $1 }'
+        "$program" enqueue "$1" "$1" times | awk 'NR == 2 { print $1 }'
     done | sort -n | head -n 1
 }
 

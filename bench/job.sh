@@ -6,12 +6,10 @@
 #
 #   bench/job.sh [RUNS]
 set -euo pipefail
-cd "$(dirname "$0")/../crates/job_bench"
+. "$(dirname "$0")/build.sh"
 
 runs=${1:-3}
-diff -r data ../../examples/jobs
-rt run -- 1 data/one_host.toml >/dev/null 2>&1
-program=$PWD/out/job_bench
+diff -r -x addresses.txt "$bench/data" "$bench/../../examples/jobs"
 folder=$(mktemp -d)
 trap 'rm -rf "$folder"' EXIT
 
@@ -28,7 +26,7 @@ job() {
 best() {
     local TIMEFORMAT='%U' run
     for ((run = 0; run < runs; run++)); do
-        { time (ulimit -v 300000 && "$program" 1 "$1" >/dev/null); } 2>&1
+        { time (ulimit -v 300000 && "$program" job 1 "$1" >/dev/null); } 2>&1
     done | sort -n | head -n 1
 }
 

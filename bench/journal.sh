@@ -7,11 +7,9 @@
 #
 #   bench/journal.sh [RUNS]
 set -euo pipefail
-cd "$(dirname "$0")/../crates/journal_bench"
+. "$(dirname "$0")/build.sh"
 
 runs=${1:-5}
-rt run -- 10 20 5 7 >/dev/null 2>&1
-program=$PWD/out/journal_bench
 report=$(mktemp)
 trap 'rm -f "$report"' EXIT
 
@@ -22,7 +20,7 @@ while read -r others hosts least; do
     best_read=0
     best_spelt=0
     for ((run = 0; run < runs; run++)); do
-        /usr/bin/time -f '%M' "$program" 100000 20 "$others" "$hosts" times >"$report" 2>&1
+        /usr/bin/time -f '%M' "$program" journal 100000 20 "$others" "$hosts" times >"$report" 2>&1
         read -r bytes read spelt peak < <(tr -c '0-9\n' ' ' <"$report" | awk 'NR == 1 { b = $2 } NR == 2 { r = $1; s = $2 } NR == 3 { print b, r, s, $1 }')
         best_read=$((read > best_read ? read : best_read))
         best_spelt=$((spelt > best_spelt ? spelt : best_spelt))

@@ -6,11 +6,9 @@
 #
 #   bench/links.sh [RUNS]
 set -euo pipefail
-cd "$(dirname "$0")/../crates/links_bench"
+. "$(dirname "$0")/build.sh"
 
 runs=${1:-5}
-rt run -- html '' '<a href=x>' 100 1 >/dev/null 2>&1
-program=$PWD/out/links_bench
 
 farm='<li><a href="/articles/2024/page-12345.html" class="item">A link to an article</a></li> '
 text='<p>It was the best of times, it was the worst of times, it was the age of wisdom, it was the age of foolishness.</p> '
@@ -22,7 +20,7 @@ list=$(printf 'b%.0s' {1..2000})
 best() {
     local TIMEFORMAT='%U' run
     for ((run = 0; run < runs; run++)); do
-        { time "$program" "$@" >/dev/null; } 2>&1
+        { time "$program" links "$@" >/dev/null; } 2>&1
     done | sort -n | head -n 1
 }
 

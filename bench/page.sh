@@ -6,18 +6,16 @@
 #
 #   bench/page.sh [RUNS]
 set -euo pipefail
-cd "$(dirname "$0")/../crates/page_bench"
+. "$(dirname "$0")/build.sh"
 
 runs=${1:-5}
 limit=40
-rt run -- 1000 1 >/dev/null 2>&1
-program=$PWD/out/page_bench
 
 # user and system milliseconds of the best run, which other work on the machine disturbs little: BYTES ROUNDS
 best() {
     local TIMEFORMAT='%U %S' run
     for ((run = 0; run < runs; run++)); do
-        { time "$program" "$1" "$2" >/dev/null; } 2>&1
+        { time "$program" page "$1" "$2" >/dev/null; } 2>&1
     done | awk '{ print ($1 + $2) * 1000 }' | sort -n | head -n 1
 }
 

@@ -1,3 +1,5 @@
-#!/bin/sh
+#!/usr/bin/env bash
 # Times the reading of robots files and the answers for paths, on the program as it is built.
-cd "$(dirname "$0")/../crates/robots_bench" && exec rt run -- times
+set -euo pipefail
+. "$(dirname "$0")/build.sh"
+exec "$program" robots times

@@ -7,17 +7,15 @@
 #
 #   bench/scope.sh [RUNS]
 set -euo pipefail
-cd "$(dirname "$0")/../crates/scope_bench"
+. "$(dirname "$0")/build.sh"
 
 runs=${1:-5}
-rt run -- 100 5 1 >/dev/null 2>&1
-program=$PWD/out/scope_bench
 
 # processor seconds of the best run, which other work on the machine disturbs little: PREFIXES PATTERNS ROUNDS
 best() {
     local TIMEFORMAT='%U' run
     for ((run = 0; run < runs; run++)); do
-        { time "$program" "$1" "$2" "$3" >/dev/null; } 2>&1
+        { time "$program" scope "$1" "$2" "$3" >/dev/null; } 2>&1
     done | sort -n | head -n 1
 }
 

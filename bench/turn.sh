@@ -5,19 +5,17 @@
 #
 #   bench/turn.sh [RUNS]
 set -euo pipefail
-cd "$(dirname "$0")/../crates/turn_bench"
+. "$(dirname "$0")/build.sh"
 
 runs=${1:-5}
 turns=1000000
 limit=25
-rt run -- turn 1 1 >/dev/null 2>&1
-program=out/turn_bench
 
 # seconds, user and system seconds of the best run: KIND CALLERS
 best() {
     local TIMEFORMAT='%R %U %S' each=$((turns / $2)) run value
     for ((run = 0; run < runs; run++)); do
-        { time value=$("$program" "$1" "$2" "$each"); } 2>&1
+        { time value=$("$program" turn "$1" "$2" "$each"); } 2>&1
         if [ "$value" != "$turns" ]; then
             echo "$1 of $2 callers: $value of $turns turns" >&2
             exit 1
